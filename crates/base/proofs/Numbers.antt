@@ -1,0 +1,63 @@
+-- What the number of a verdict tells: of the rule that was tested, and of a test that goes on where another accepted.
+-- Assumes nothing.
+use Prim.Native.Nat.{ℕ, zero, suc}
+use mathlib.Core.Bool.{Bool, true, false}
+use mathlib.Core.Path.{_≡_, refl, sym, ap, _∙_}
+use native.Mathlib.Omega.{arith}
+use Rattle.base.specs.declared.Refusal.{Refusal}
+use Rattle.base.specs.declared.Refusal.the-variants.{Length, Record, Order, Metres, Place, Cranes, Calls, Triangle, Plan, Weights, Buffer}
+use Rattle.base.specs.declared.Verdict.{Verdict}
+use Rattle.base.specs.declared.Verdict.the-variants.{Accepted, Refused}
+use Rattle.base.specs.Numbers.{refusalNumber, numberOf, unless, _then_}
+
+-- no refusal has the number 0, by which an accepted input is told
+positive : (x : Refusal) → refusalNumber x ≡ 0 → ⊥
+positive Length h = omega arith
+positive Record h = omega arith
+positive Order h = omega arith
+positive Metres h = omega arith
+positive Place h = omega arith
+positive Cranes h = omega arith
+positive Calls h = omega arith
+positive Triangle h = omega arith
+positive Plan h = omega arith
+positive Weights h = omega arith
+positive Buffer h = omega arith
+
+pub unless-zero : (b : Bool) (k : ℕ) → unless b (suc k) ≡ 0 → b ≡ true
+unless-zero true k h = refl
+unless-zero false k h = absurd (let z : suc k ≡ 0 = h in omega arith)
+
+pub then-zero-left : (s t : ℕ) → (s then t) ≡ 0 → s ≡ 0
+then-zero-left zero t h = refl
+then-zero-left (suc s) t h = h
+
+pub then-zero-right : (s t : ℕ) → (s then t) ≡ 0 → t ≡ 0
+then-zero-right zero t h = h
+then-zero-right (suc s) t h = absurd (let z : suc s ≡ 0 = h in omega arith)
+
+module _ (v : Verdict) where
+  -- an accepted verdict: the rule holds
+  pub holds : (b : Bool) (k : ℕ) → v ≡ Accepted → numberOf v ≡ unless b (suc k) → b ≡ true
+  holds b k e h = unless-zero b k (sym h ∙ ap numberOf e)
+
+  -- an accepted verdict: the second test decides
+  pub goes-on : (s t n : ℕ) → v ≡ Accepted → numberOf v ≡ s → n ≡ t → n ≡ (s then t)
+  goes-on s t n e h q = q ∙ sym (ap (λ (k : ℕ). k then t) (sym h ∙ ap numberOf e))
+
+  module _ (x : Refusal) (e : v ≡ Refused x) where
+    broken : (b : Bool) (r : ℕ) → numberOf v ≡ unless b r → b ≡ false
+    broken true r h = absurd (positive x (sym (ap numberOf e) ∙ h))
+    broken false r h = refl
+
+    -- a refusal for one number below n refuses for all of them
+    pub stops : (b all : Bool) (r : ℕ) → numberOf v ≡ unless b r → (b ≡ false → all ≡ false) → numberOf v ≡ unless all r
+    stops b all r h f = h ∙ rw (broken b r h, f (broken b r h))
+
+    stays : (s t : ℕ) → numberOf v ≡ s → numberOf v ≡ (s then t)
+    stays zero t h = absurd (positive x (sym (ap numberOf e) ∙ h))
+    stays (suc s) t h = h
+
+    -- a refusal is handed up, whatever was to be tested after it
+    pub handed-up : (s t : ℕ) → numberOf v ≡ s → numberOf v ≡ (s then t)
+    handed-up s t h = stays s t h

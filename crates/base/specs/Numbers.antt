@@ -1,0 +1,38 @@
+-- Document 01's number for each refusal and each verdict, and tests in their order.
+use Prim.Native.Nat.{ℕ, zero, suc}
+use mathlib.Core.Bool.{Bool, true, false}
+use Rattle.base.specs.declared.Refusal.{Refusal}
+use Rattle.base.specs.declared.Refusal.the-variants.{Length, Record, Order, Metres, Place, Cranes, Calls, Triangle, Plan, Weights, Buffer}
+use Rattle.base.specs.declared.Verdict.{Verdict}
+use Rattle.base.specs.declared.Verdict.the-variants.{Accepted, Refused}
+
+infixr 20 _then_
+
+-- the column "Returned" of the refusal table
+abbrev pub refusalNumber : Refusal → ℕ
+refusalNumber Length = 1
+refusalNumber Record = 2
+refusalNumber Order = 3
+refusalNumber Metres = 4
+refusalNumber Place = 5
+refusalNumber Cranes = 6
+refusalNumber Calls = 7
+refusalNumber Triangle = 8
+refusalNumber Plan = 9
+refusalNumber Weights = 10
+refusalNumber Buffer = 11
+
+-- 0 where no refusal applies
+abbrev pub numberOf : Verdict → ℕ
+numberOf Accepted = 0
+numberOf (Refused r) = refusalNumber r
+
+-- the refusal r unless the rule holds
+abbrev pub unless : Bool → ℕ → ℕ
+unless true r = 0
+unless false r = r
+
+-- the first refusal that applies, of two tests in order
+abbrev pub _then_ : ℕ → ℕ → ℕ
+_then_ zero s = s
+_then_ (suc r) s = suc r

@@ -1,0 +1,33 @@
+-- `road::Road::test_triangles` meets its contract: 3 is handed up, and where it does not apply the rest decides.
+-- Assumes nothing.
+use borrow.Author.Needs.{needs}
+use Rattle.base.proofs.Numbers.{holds, goes-on, handed-up}
+use Rattle.base.proofs.Tests.{within-most}
+use Rattle.road.proofs.Road.test_triangles.Statement.{statement}
+use Rattle.road.proofs.Road.test_triangles.Tie as tie
+
+test-places-requires : tie.Need-test-places-requires
+test-places-requires c κs = search needs
+
+enum-told : tie.Need-enum-told
+enum-told c = search needs
+
+enum-told-2 : tie.Need-enum-told-2
+enum-told-2 c = search needs
+
+returns : tie.Need-returns
+returns c =
+    let e = c .enum-told2 .given in
+    handed-up _ (e .0 .0) (e .1) _ _ (c .before .before .test-places .ensures)
+
+test-requires : tie.Need-test-requires
+test-requires c κs =
+    within-most 1 64 _ (holds _ _ 2 (c .before .enum-told .given .1) (c .before .before .before .test-places .ensures))
+
+returns-2 : tie.Need-returns-2
+returns-2 c =
+    goes-on _ _ _ _ (c .before .before .enum-told .given .1) (c .before .before .before .before .test-places .ensures)
+    (c .test .ensures)
+
+pub test-triangles-spec : {M : Type 1} → statement M
+test-triangles-spec = tie.close (tie.spec test-places-requires enum-told enum-told-2 returns test-requires returns-2)

@@ -1,0 +1,73 @@
+-- `road::triangles::test` meets its contract: the loop passes the places u from which no way by another place is shorter than the road.
+-- Assumes nothing.
+use Prim.Native.Nat.{ℕ, _-_}
+use mathlib.Core.Bool.{Bool}
+use mathlib.Core.List.{List}
+use borrow.Author.Needs.{needs}
+use Rattle.base.specs.Tests.{allBelow}
+use Rattle.base.proofs.Numbers.{holds, stops}
+use Rattle.base.proofs.Tests.{Passed, begun, turned, ended, below-fails}
+use Rattle.road.specs.Table.{distance, detourRule}
+use Rattle.road.proofs.triangles.test.Statement.{statement}
+use Rattle.road.proofs.triangles.test.Tie as tie
+
+-- what the loop tests of each place
+abbrev rule : List (List ℕ) → ℕ → ℕ → Bool
+rule table places = λ u. allBelow places (λ v. allBelow places (detourRule (distance table) u v))
+
+abbrev Inv-loop : tie.InvT-loop
+Inv-loop table places u₀ u = Passed places (rule table places) u
+
+abbrev μ-loop : tie.MeasureT-loop
+μ-loop table places u₀ u = places - u
+
+loop-holds : tie.Need-loop-holds Inv-loop μ-loop
+loop-holds c = begun _ _
+
+test-from-requires : tie.Need-test-from-requires Inv-loop μ-loop
+test-from-requires c κs = search needs
+
+enum-told : tie.Need-enum-told Inv-loop μ-loop
+enum-told c = search needs
+
+enum-told-2 : tie.Need-enum-told-2 Inv-loop μ-loop
+enum-told-2 c = search needs
+
+returns : tie.Need-returns Inv-loop μ-loop
+returns c =
+    let l = c .before .before .before .before in
+    let a = l .before .args in
+    let e = c .enum-told2 .given in
+    stops _ (e .0 .0) (e .1) _ _ 8 (c .before .before .test-from .ensures)
+    (below-fails (rule (a .table .now) (a .places)) (a .places) (l .loop .u) (c .before .before .before .loop-test .taken))
+
+add-u : tie.Need-add-u Inv-loop μ-loop
+add-u c = search needs
+
+loop-less : tie.Need-loop-less Inv-loop μ-loop
+loop-less c = search needs
+
+loop-again : tie.Need-loop-again Inv-loop μ-loop
+loop-again c =
+    let l = c .before .before .before .before in
+    turned _ _ (l .loop .u) (l .loop .inv) (c .before .before .before .loop-test .taken)
+    (holds _ _ 7 (c .enum-told .given .1) (c .before .before .test-from .ensures))
+
+returns-2 : tie.Need-returns-2 Inv-loop μ-loop
+returns-2 c = rw (ended _ _ (c .before .loop .u) (c .before .loop .inv) (c .loop-test .left))
+
+pub test-spec : {M : Type 1} → statement M
+test-spec =
+    tie.close
+    (tie.spec
+    Inv-loop
+    μ-loop
+    loop-holds
+    test-from-requires
+    enum-told
+    enum-told-2
+    returns
+    add-u
+    loop-less
+    loop-again
+    returns-2)
