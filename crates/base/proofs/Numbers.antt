@@ -1,4 +1,4 @@
--- What the number of a verdict tells: of the rule that was tested, and of a test that goes on where another accepted.
+-- What the number of a verdict tells: of the rule that was tested, and of the tests that come after.
 -- Assumes nothing.
 use Prim.Native.Nat.{ℕ, zero, suc}
 use mathlib.Core.Bool.{Bool, true, false}
@@ -10,7 +10,7 @@ use Rattle.base.specs.declared.Verdict.{Verdict}
 use Rattle.base.specs.declared.Verdict.the-variants.{Accepted, Refused}
 use Rattle.base.specs.Numbers.{refusalNumber, numberOf, unless, _then_}
 
--- no refusal has the number 0, by which an accepted input is told
+-- no refusal has the number 0, which is that of an accepted input
 positive : (x : Refusal) → refusalNumber x ≡ 0 → ⊥
 positive Length h = omega arith
 positive Record h = omega arith
@@ -28,20 +28,16 @@ pub unless-zero : (b : Bool) (k : ℕ) → unless b (suc k) ≡ 0 → b ≡ true
 unless-zero true k h = refl
 unless-zero false k h = absurd (let z : suc k ≡ 0 = h in omega arith)
 
-pub then-zero-left : (s t : ℕ) → (s then t) ≡ 0 → s ≡ 0
-then-zero-left zero t h = refl
-then-zero-left (suc s) t h = h
-
-pub then-zero-right : (s t : ℕ) → (s then t) ≡ 0 → t ≡ 0
-then-zero-right zero t h = h
-then-zero-right (suc s) t h = absurd (let z : suc s ≡ 0 = h in omega arith)
+pub then-zero : (s t : ℕ) → (s then t) ≡ 0 → (s ≡ 0) × (t ≡ 0)
+then-zero zero t h = (refl, h)
+then-zero (suc s) t h = absurd (let z : suc s ≡ 0 = h in omega arith)
 
 module _ (v : Verdict) where
   -- an accepted verdict: the rule holds
   pub holds : (b : Bool) (k : ℕ) → v ≡ Accepted → numberOf v ≡ unless b (suc k) → b ≡ true
   holds b k e h = unless-zero b k (sym h ∙ ap numberOf e)
 
-  -- an accepted verdict: the second test decides
+  -- an accepted verdict: the test after it decides
   pub goes-on : (s t n : ℕ) → v ≡ Accepted → numberOf v ≡ s → n ≡ t → n ≡ (s then t)
   goes-on s t n e h q = q ∙ sym (ap (λ (k : ℕ). k then t) (sym h ∙ ap numberOf e))
 
@@ -50,14 +46,11 @@ module _ (v : Verdict) where
     broken true r h = absurd (positive x (sym (ap numberOf e) ∙ h))
     broken false r h = refl
 
-    -- a refusal for one number below n refuses for all of them
+    -- a refusal of one is a refusal of all, under the same number
     pub stops : (b all : Bool) (r : ℕ) → numberOf v ≡ unless b r → (b ≡ false → all ≡ false) → numberOf v ≡ unless all r
     stops b all r h f = h ∙ rw (broken b r h, f (broken b r h))
 
-    stays : (s t : ℕ) → numberOf v ≡ s → numberOf v ≡ (s then t)
-    stays zero t h = absurd (positive x (sym (ap numberOf e) ∙ h))
-    stays (suc s) t h = h
-
-    -- a refusal is handed up, whatever was to be tested after it
+    -- a refusal is handed up with its number, whatever test was to come after it
     pub handed-up : (s t : ℕ) → numberOf v ≡ s → numberOf v ≡ (s then t)
-    handed-up s t h = stays s t h
+    handed-up zero t h = absurd (positive x (sym (ap numberOf e) ∙ h))
+    handed-up (suc s) t h = h

@@ -1,4 +1,4 @@
--- The laws of a metric on the places below n.
+-- What the theory asks of distances: the laws of a metric on the places below n. A distance of 0 may lie between two places.
 use Prim.Native.Nat.{ℕ, _+_, _<_, _≤_}
 use mathlib.Core.Path.{_≡_}
 

@@ -1,6 +1,6 @@
 -- Document 01's number for each refusal and each verdict, and tests in their order.
 use Prim.Native.Nat.{ℕ, zero, suc}
-use mathlib.Core.Bool.{Bool, true, false}
+use mathlib.Core.Bool.{Bool, cond}
 use Rattle.base.specs.declared.Refusal.{Refusal}
 use Rattle.base.specs.declared.Refusal.the-variants.{Length, Record, Order, Metres, Place, Cranes, Calls, Triangle, Plan, Weights, Buffer}
 use Rattle.base.specs.declared.Verdict.{Verdict}
@@ -27,12 +27,11 @@ abbrev pub numberOf : Verdict → ℕ
 numberOf Accepted = 0
 numberOf (Refused r) = refusalNumber r
 
--- the refusal r unless the rule holds
+-- the refusal r unless its rule holds
 abbrev pub unless : Bool → ℕ → ℕ
-unless true r = 0
-unless false r = r
+unless rule r = cond rule 0 r
 
--- the first refusal that applies, of two tests in order
+-- two tests in order: the refusal of the first, else that of the second
 abbrev pub _then_ : ℕ → ℕ → ℕ
 _then_ zero s = s
 _then_ (suc r) s = suc r

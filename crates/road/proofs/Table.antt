@@ -1,37 +1,36 @@
--- The laws of a leg and of an entry, for the functions that read them; and that an accepted table is a metric.
+-- The laws of an entry and of a leg, for the functions that read them; and an accepted table is a metric.
 -- Assumes nothing.
-use Prim.Native.Nat.{ℕ, suc, _+_, _<_, _≤_}
-use mathlib.Core.Bool.{Bool, true, false}
-use mathlib.Core.List.{List}
-use mathlib.Core.Path.{_≡_, refl, sym, subst, _∙_}
-use borrow.Author.Tests.{le-leb, lt-leb, leb-true, leb-false, eq-eqb, ne-eqb, eqb-true, lt-ltb, le-ltb}
-use lib.Dec.{leb, ltb, eqb}
+use Prim.Native.Nat.{ℕ, _+_, _<_, _≤_}
+use mathlib.Core.Bool.{true, false, _&&_, and-eq-true-iff, and-false}
+use mathlib.Core.Path.{_≡_, refl, sym, _∙_}
+use borrow.Author.Tests.{leb-true, eq-eqb, ne-eqb, eqb-true, lt-ltb, le-ltb}
+use lib.Dec.{ltb, eqb}
 use native.Mathlib.Decide.{ℕ-discrete}
 use Rattle.base.specs.Metric.{Metric}
-use Rattle.base.specs.Numbers.{unless, _then_}
-use Rattle.base.specs.Tests.{both, allBelow}
-use Rattle.base.proofs.Numbers.{unless-zero, then-zero-left, then-zero-right}
-use Rattle.base.proofs.Tests.{both-true, both-left, both-false-left, both-false-right, below-at}
-use Rattle.road.specs.Table.{entry, metresRule, legRule, legsRule, detourRule, triangleRule, placesRefusal, legsRefusal, triangleRefusal, tableRefusal}
+use Rattle.base.specs.Numbers.{_then_}
+use Rattle.base.specs.Tests.{allBelow}
+use Rattle.base.proofs.Numbers.{unless-zero, then-zero}
+use Rattle.base.proofs.Tests.{below-at, below-same}
+use Rattle.road.specs.Table.{entry, metresRule, legRule, legsRule, wayRule, triangleRule, placesRefusal, legsRefusal, triangleRefusal, tableRefusal}
 
 module _ (d : ℕ → ℕ → ℕ) (u v : ℕ) where
   pub entry-in : u < 64 → v < 64 → entry d u v ≡ d u v
   unfolding entry
-  entry-in p q = rw (both-true (ltb u 64) (ltb v 64) (lt-ltb u 64 p) (lt-ltb v 64 q))
+  entry-in p q = rw (lt-ltb u 64 p, lt-ltb v 64 q)
 
-  pub entry-row-past : 64 ≤ u → entry d u v ≡ 0
+  pub entry-past-rows : 64 ≤ u → entry d u v ≡ 0
   unfolding entry
-  entry-row-past p = rw (both-false-left (ltb u 64) (ltb v 64) (le-ltb u 64 p))
+  entry-past-rows p = rw (le-ltb u 64 p)
 
-  pub entry-column-past : 64 ≤ v → entry d u v ≡ 0
+  pub entry-past-columns : 64 ≤ v → entry d u v ≡ 0
   unfolding entry
-  entry-column-past p = rw (both-false-right (ltb u 64) (ltb v 64) (le-ltb v 64 p))
+  entry-past-columns p = rw (le-ltb v 64 p, and-false (ltb u 64))
 
   self-leg : u ≡ v → legRule d u v ≡ eqb (d u v) 0
   unfolding legRule
   self-leg p = rw (eq-eqb u v p)
 
-  other-leg : (u ≡ v → ⊥) → legRule d u v ≡ both (eqb (d u v) (d v u)) (metresRule (d u v))
+  other-leg : (u ≡ v → ⊥) → legRule d u v ≡ (eqb (d u v) (d v u) && metresRule (d u v))
   unfolding legRule
   other-leg p = rw (ne-eqb u v p)
 
@@ -48,32 +47,46 @@ module _ (d : ℕ → ℕ → ℕ) (u v : ℕ) where
   leg-uneven p q = other-leg p ∙ rw (ne-eqb (d u v) (d v u) q)
 
   leg-both-ways : legRule d u v ≡ true → d u v ≡ d v u
-  leg-both-ways h = go (ℕ-discrete u v)
+  leg-both-ways h = either (ℕ-discrete u v)
     where
-      go : Dec (u ≡ v) → d u v ≡ d v u
-      go (yes e) = rw e
-      go (no n) = eqb-true (d u v) (d v u) (both-left (eqb (d u v) (d v u)) (metresRule (d u v)) (sym (other-leg n) ∙ h))
+      either : Dec (u ≡ v) → d u v ≡ d v u
+      either (yes e) = rw e
+      either (no ne) = eqb-true (d u v) (d v u) (and-eq-true-iff (eqb (d u v) (d v u)) (metresRule (d u v)) .0 (sym (other-leg ne) ∙ h) .0)
 
--- the legs of an accepted table
 module _ (n : ℕ) (d : ℕ → ℕ → ℕ) where
   leg-at : legsRule n d ≡ true → (u v : ℕ) → u < n → v < n → legRule d u v ≡ true
   leg-at h u v p q = below-at (legRule d u) n (below-at (λ (a : ℕ). allBelow n (legRule d a)) n h u p) v q
 
-  detour-at : triangleRule n d ≡ true → (u v w : ℕ) → u < n → v < n → w < n → d u w ≤ d u v + d v w
-  detour-at h u v w p q r =
-      leb-true (d u w) (d u v + d v w)
-      (below-at (detourRule d u v) n
-      (below-at (λ (b : ℕ). allBelow n (detourRule d u b)) n
-      (below-at (λ (a : ℕ). allBelow n (λ (b : ℕ). allBelow n (detourRule d a b))) n h u p) v q) w r)
+  way-at : triangleRule n d ≡ true → (u v w : ℕ) → u < n → v < n → w < n → d u w ≤ d u v + d v w
+  way-at h u v w p q r =
+      let from = below-at (λ (a : ℕ). allBelow n (λ (b : ℕ). allBelow n (wayRule d a b))) n h u p in
+      let by = below-at (λ (b : ℕ). allBelow n (wayRule d u b)) n from v q in
+      leb-true (d u w) (d u v + d v w) (below-at (wayRule d u v) n by w r)
 
-  -- a table that no refusal applies to is a metric
+  -- the tests 4 and 8 make a metric, whatever the layer above tests between them
+  pub tested-metric : legsRule n d ≡ true → triangleRule n d ≡ true → Metric n d
+  tested-metric legs triangles = record {
+    self = λ u p. eqb-true (d u u) 0 (sym (self-leg d u u refl) ∙ leg-at legs u u p p);
+    both-ways = λ u v p q. leg-both-ways d u v (leg-at legs u v p q);
+    triangle = way-at triangles;
+  }
+
+  -- an accepted table is a metric
   pub accepted-metric : tableRefusal n d ≡ 0 → Metric n d
   accepted-metric h =
-      let rest = then-zero-right (placesRefusal n) (legsRefusal n d then triangleRefusal n d) h in
-      let legs = unless-zero (legsRule n d) 3 (then-zero-left (legsRefusal n d) (triangleRefusal n d) rest) in
-      let triangles = unless-zero (triangleRule n d) 7 (then-zero-right (legsRefusal n d) (triangleRefusal n d) rest) in
-      record {
-        self = λ u p. eqb-true (d u u) 0 (sym (self-leg d u u refl) ∙ leg-at legs u u p p);
-        both-ways = λ u v p q. leg-both-ways d u v (leg-at legs u v p q);
-        triangle = detour-at triangles;
-      }
+      let rest = then-zero (legsRefusal n d) (triangleRefusal n d) (then-zero (placesRefusal n) (legsRefusal n d then triangleRefusal n d) h .1) in
+      tested-metric (unless-zero (legsRule n d) 3 (rest .0)) (unless-zero (triangleRule n d) 7 (rest .1))
+
+-- "Entries past the counts, the road table's included, are ignored on the way in": the distances between the places decide
+module _ (n : ℕ) (d e : ℕ → ℕ → ℕ) (same : (u v : ℕ) → u < n → v < n → d u v ≡ e u v) where
+  same-legs : legsRule n d ≡ legsRule n e
+  unfolding legRule
+  same-legs =
+      below-same _ _ n (λ u p. below-same (legRule d u) (legRule e u) n (λ v q. rw (same u v p q, same v u q p)))
+
+  same-triangles : triangleRule n d ≡ triangleRule n e
+  same-triangles =
+      below-same _ _ n (λ u p. below-same _ _ n (λ v q. below-same (wayRule d u v) (wayRule e u v) n (λ w r. rw (same u w p r, same u v p q, same v w q r))))
+
+  pub past-places-ignored : tableRefusal n d ≡ tableRefusal n e
+  past-places-ignored = rw (same-legs, same-triangles)

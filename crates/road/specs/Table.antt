@@ -1,25 +1,21 @@
 -- The road table of document 01: its distances, its rules, and the first refusal that applies to it.
 use Prim.Native.Nat.{ℕ, _+_}
-use mathlib.Core.Bool.{Bool, true, false}
+use mathlib.Core.Bool.{Bool, _&&_, cond}
 use mathlib.Core.List.{List, []}
 use lib.Dec.{leb, ltb, eqb}
 use lib.ListN.{getD}
 use Rattle.base.specs.Numbers.{unless, _then_}
-use Rattle.base.specs.Tests.{both, within, allBelow}
+use Rattle.base.specs.Tests.{within, allBelow}
 
--- d(u,w), "the metres from u to w": row u, column w
+-- "d(u,w) the metres from u to w": "one row for each place, one column for each place"
 abbrev pub distance : List (List ℕ) → ℕ → ℕ → ℕ
 distance t u w = getD (getD t u []) w 0
 
-abbrev entryIs : Bool → (ℕ → ℕ → ℕ) → ℕ → ℕ → ℕ
-entryIs true d u w = d u w
-entryIs false d u w = 0
-
--- the metres read off a table of 64 rows and columns, whatever the numbers: 0 past those
+-- what is read off a table for any two numbers: 0 past its 64 rows and columns
 unfoldable pub entry : (ℕ → ℕ → ℕ) → ℕ → ℕ → ℕ
-entry d u w = entryIs (both (ltb u 64) (ltb w 64)) d u w
+entry d u w = cond (ltb u 64 && ltb w 64) (d u w) 0
 
--- "there are 1 to 64" places
+-- "Places are numbered from 0; there are 1 to 64."
 abbrev pub placesRule : ℕ → Bool
 placesRule n = within 1 64 n
 
@@ -27,35 +23,37 @@ placesRule n = within 1 64 n
 abbrev pub metresRule : ℕ → Bool
 metresRule m = within 1 1000000 m
 
--- the leg from u to v, where `same` tells whether they are one place
-abbrev legIs : Bool → (ℕ → ℕ → ℕ) → ℕ → ℕ → Bool
-legIs true d u v = eqb (d u v) 0
-legIs false d u v = both (eqb (d u v) (d v u)) (metresRule (d u v))
-
 -- "A place to itself is 0. Between different places it is 1 to 1,000,000, the same both ways."
 unfoldable pub legRule : (ℕ → ℕ → ℕ) → ℕ → ℕ → Bool
-legRule d u v = legIs (eqb u v) d u v
+legRule d u v = cond (eqb u v) (eqb (d u v) 0) (eqb (d u v) (d v u) && metresRule (d u v))
 
 abbrev pub legsRule : ℕ → (ℕ → ℕ → ℕ) → Bool
 legsRule n d = allBelow n (λ u. allBelow n (legRule d u))
 
 -- "d(u,w) ≤ d(u,v) + d(v,w)"
-abbrev pub detourRule : (ℕ → ℕ → ℕ) → ℕ → ℕ → ℕ → Bool
-detourRule d u v w = leb (d u w) (d u v + d v w)
+abbrev pub wayRule : (ℕ → ℕ → ℕ) → ℕ → ℕ → ℕ → Bool
+wayRule d u v w = leb (d u w) (d u v + d v w)
 
 -- "For all places u, v, w"
 abbrev pub triangleRule : ℕ → (ℕ → ℕ → ℕ) → Bool
-triangleRule n d = allBelow n (λ u. allBelow n (λ v. allBelow n (detourRule d u v)))
+triangleRule n d = allBelow n (λ u. allBelow n (λ v. allBelow n (wayRule d u v)))
 
--- the refusals of a table alone, in their order: 3, 4, 8
+-- "in memory, places not 1 to 64"
 abbrev pub placesRefusal : ℕ → ℕ
 placesRefusal n = unless (placesRule n) 3
 
+-- "metres outside the rules for a leg"
+abbrev pub metresRefusal : ℕ → ℕ
+metresRefusal m = unless (metresRule m) 4
+
+-- "metres outside the rules for a leg; in memory also a self-leg not 0 or two directions unequal"
 abbrev pub legsRefusal : ℕ → (ℕ → ℕ → ℕ) → ℕ
 legsRefusal n d = unless (legsRule n d) 4
 
+-- "three places break the triangle rule"
 abbrev pub triangleRefusal : ℕ → (ℕ → ℕ → ℕ) → ℕ
 triangleRefusal n d = unless (triangleRule n d) 8
 
+-- a table alone, in memory: 3, then 4, then 8
 abbrev pub tableRefusal : ℕ → (ℕ → ℕ → ℕ) → ℕ
 tableRefusal n d = placesRefusal n then legsRefusal n d then triangleRefusal n d

@@ -6,8 +6,8 @@ mod triangles;
 use base::Refusal;
 use base::Verdict;
 ghost use mathlib.Core.Path.{_≡_};
-ghost use Rattle.base.specs.Numbers.{numberOf, unless, _then_};
-ghost use Rattle.road.specs.Table.{distance, entry, metresRule, placesRefusal, legsRefusal, triangleRefusal, tableRefusal};
+ghost use Rattle.base.specs.Numbers.{numberOf, _then_};
+ghost use Rattle.road.specs.Table.{distance, entry, placesRefusal, metresRefusal, legsRefusal, triangleRefusal, tableRefusal};
 
 // The metres from each place to each place, one row for each place. A table goes with its number of places, and
 // entries at or past that number are ignored.
@@ -50,7 +50,7 @@ impl Road {
 
     // 4 unless the metres of a leg between different places are within their limits.
     pub fn test_metres(metres: u32) -> Verdict
-        ensures { λ r. ⌜ numberOf r ≡ unless (metresRule metres) 4 ⌝ }
+        ensures { λ r. ⌜ numberOf r ≡ metresRefusal metres ⌝ }
     {
         if metres < 1 {
             return Verdict::Refused(Refusal::Metres);

@@ -7,7 +7,7 @@ ghost use Prim.Native.Nat.{_+_, _<_, _≤_};
 ghost use lib.Dec.{leb};
 ghost use Rattle.base.specs.Numbers.{numberOf, unless};
 ghost use Rattle.base.specs.Tests.{allBelow};
-ghost use Rattle.road.specs.Table.{distance, detourRule, triangleRefusal};
+ghost use Rattle.road.specs.Table.{distance, wayRule, triangleRefusal};
 
 // 8 unless a way of two legs is at least as long as the road.
 fn test_lengths(first: u32, second: u32, road: u32) -> Verdict
@@ -22,7 +22,7 @@ fn test_lengths(first: u32, second: u32, road: u32) -> Verdict
 // 8 unless the way from u by v to w is at least as long as the road.
 fn test_way(table: &Table, u: usize, v: usize, w: usize) -> Verdict
     requires { ⌜ (u < 64) × ((v < 64) × (w < 64)) ⌝ }
-    ensures { λ r. ⌜ numberOf r ≡ unless (detourRule (distance (now (table .entry))) u v w) 8 ⌝ }
+    ensures { λ r. ⌜ numberOf r ≡ unless (wayRule (distance (now (table .entry))) u v w) 8 ⌝ }
 {
     test_lengths(table[u][v], table[v][w], table[u][w])
 }
@@ -30,7 +30,7 @@ fn test_way(table: &Table, u: usize, v: usize, w: usize) -> Verdict
 // 8 unless every way from u by v is at least as long as the road.
 fn test_by(table: &Table, places: usize, u: usize, v: usize) -> Verdict
     requires { ⌜ (places ≤ 64) × ((u < 64) × (v < 64)) ⌝ }
-    ensures { λ r. ⌜ numberOf r ≡ unless (allBelow places (detourRule (distance (now (table .entry))) u v)) 8 ⌝ }
+    ensures { λ r. ⌜ numberOf r ≡ unless (allBelow places (wayRule (distance (now (table .entry))) u v)) 8 ⌝ }
 {
     let mut w = 0;
     while w < places {
@@ -46,7 +46,7 @@ fn test_by(table: &Table, places: usize, u: usize, v: usize) -> Verdict
 // 8 unless every way from u by another place is at least as long as the road.
 fn test_from(table: &Table, places: usize, u: usize) -> Verdict
     requires { ⌜ (places ≤ 64) × (u < 64) ⌝ }
-    ensures { λ r. ⌜ numberOf r ≡ unless (allBelow places (λ v. allBelow places (detourRule (distance (now (table .entry))) u v))) 8 ⌝ }
+    ensures { λ r. ⌜ numberOf r ≡ unless (allBelow places (λ v. allBelow places (wayRule (distance (now (table .entry))) u v))) 8 ⌝ }
 {
     let mut v = 0;
     while v < places {

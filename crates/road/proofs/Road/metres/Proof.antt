@@ -1,5 +1,5 @@
 use mathlib.Core.Path.{sym}
-use Rattle.road.proofs.Table.{entry-in, entry-row-past, entry-column-past}
+use Rattle.road.proofs.Table.{entry-in, entry-past-rows, entry-past-columns}
 use borrow.Author.Needs.{needs}
 use Rattle.road.proofs.Road.metres.Statement.{statement}
 use Rattle.road.proofs.Road.metres.Tie as tie
@@ -7,10 +7,10 @@ use Rattle.road.proofs.Road.metres.Reads as reads
 use Rattle.road.proofs.Road.metres.Lts as lts
 
 returns : tie.Need-returns
-returns c = rw (entry-row-past _ _ _ (c .if1 .taken))
+returns c = rw (entry-past-rows _ _ _ (c .if1 .taken))
 
 returns-2 : tie.Need-returns-2
-returns-2 c = rw (entry-column-past _ _ _ (c .if2 .taken))
+returns-2 c = rw (entry-past-columns _ _ _ (c .if2 .taken))
 
 mul-result : tie.Need-mul-result
 mul-result c = search needs

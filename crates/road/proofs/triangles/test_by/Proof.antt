@@ -6,13 +6,13 @@ use mathlib.Core.List.{List}
 use borrow.Author.Needs.{needs}
 use Rattle.base.proofs.Numbers.{holds, stops}
 use Rattle.base.proofs.Tests.{Passed, begun, turned, ended, below-fails}
-use Rattle.road.specs.Table.{distance, detourRule}
+use Rattle.road.specs.Table.{distance, wayRule}
 use Rattle.road.proofs.triangles.test_by.Statement.{statement}
 use Rattle.road.proofs.triangles.test_by.Tie as tie
 
 -- what the loop tests of each place
 abbrev rule : List (List ℕ) → ℕ → ℕ → ℕ → Bool
-rule table u v = detourRule (distance table) u v
+rule table u v = wayRule (distance table) u v
 
 abbrev Inv-loop : tie.InvT-loop
 Inv-loop table places u v w₀ w = Passed places (rule table u v) w

@@ -1,0 +1,66 @@
+// Runs document 01's cases on the compiled library and prints, for each group, how many were tried and how many agree.
+// The cases marked P are proved of the definitions too, as one table: specs/Cases.antt.
+use libc::STDOUT_FILENO;
+use road::Road;
+use road::Table;
+
+const TABLES_TRIED: usize = 10;
+
+// A table of three places in each row: the number of places that it is tested with, the legs (0,1), (0,2) and (1,2),
+// and the number that the test gives.
+const TABLES: [[u32; 5]; TABLES_TRIED] = [
+    [3, 10, 25, 15, 0],
+    [3, 10, 26, 15, 8],
+    [2, 1_000_000, 0, 0, 0],
+    [2, 1_000_001, 0, 0, 4],
+    [2, 0, 0, 0, 4],
+    [1, 0, 0, 0, 0],
+    [0, 10, 25, 15, 3],
+    [65, 10, 25, 15, 3],
+    [3, 10, 1_000_001, 15, 4],
+    [2, 10, 26, 15, 0],
+];
+
+// The table of three places with these legs.
+fn three(first: u32, second: u32, third: u32) -> Table {
+    let mut table = [[0; Road::PLACES]; Road::PLACES];
+    table[0][1] = first;
+    table[1][0] = first;
+    table[0][2] = second;
+    table[2][0] = second;
+    table[1][2] = third;
+    table[2][1] = third;
+    table
+}
+
+// Whether the test of a row's table gives the row's number.
+fn agrees(row: [u32; 5]) -> bool {
+    let table = three(row[1], row[2], row[3]);
+    let verdict = Road::test(row[0] as usize, table);
+    base::number(verdict) as u32 == row[4]
+}
+
+// How many of the tables agree.
+fn tables() -> u64 {
+    let mut agree = 0;
+    for i in 0..TABLES_TRIED {
+        if agrees(TABLES[i]) {
+            agree += 1;
+        }
+    }
+    agree
+}
+
+// One line: a group's name, and how many of its cases were tried and agree.
+fn line(name: &[u8], tried: u64, agree: u64) {
+    io::write_all(STDOUT_FILENO, name);
+    io::write_all(STDOUT_FILENO, b": tried ");
+    io::print_decimal(STDOUT_FILENO, tried);
+    io::write_all(STDOUT_FILENO, b" agree ");
+    io::print_decimal(STDOUT_FILENO, agree);
+    io::write_all(STDOUT_FILENO, b"\n");
+}
+
+fn main() {
+    line(b"tables", TABLES_TRIED as u64, tables());
+}
