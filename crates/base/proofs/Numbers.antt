@@ -3,6 +3,8 @@
 use Prim.Native.Nat.{ℕ, zero, suc}
 use mathlib.Core.Bool.{Bool, true, false}
 use mathlib.Core.Path.{_≡_, refl, sym, ap, _∙_}
+use mathlib.Core.List.{List, [], _∷_}
+use lib.ListN.{getD}
 use native.Mathlib.Omega.{arith}
 use Rattle.base.specs.declared.Refusal.{Refusal}
 use Rattle.base.specs.declared.Refusal.the-variants.{Length, Record, Order, Metres, Place, Cranes, Calls, Triangle, Plan, Weights, Buffer}
@@ -10,19 +12,34 @@ use Rattle.base.specs.declared.Verdict.{Verdict}
 use Rattle.base.specs.declared.Verdict.the-variants.{Accepted, Refused}
 use Rattle.base.specs.Numbers.{refusalNumber, numberOf, unless, _then_}
 
+-- the verdicts in the order of their numbers
+verdicts : List Verdict
+verdicts =
+    Accepted ∷ Refused Length ∷ Refused Record ∷ Refused Order ∷ Refused Metres ∷ Refused Place ∷ Refused Cranes ∷
+    Refused Calls ∷ Refused Triangle ∷ Refused Plan ∷ Refused Weights ∷ Refused Buffer ∷ []
+
+from-number : (v : Verdict) → getD verdicts (numberOf v) Accepted ≡ v
+unfolding verdicts
+from-number Accepted = refl
+from-number (Refused Length) = refl
+from-number (Refused Record) = refl
+from-number (Refused Order) = refl
+from-number (Refused Metres) = refl
+from-number (Refused Place) = refl
+from-number (Refused Cranes) = refl
+from-number (Refused Calls) = refl
+from-number (Refused Triangle) = refl
+from-number (Refused Plan) = refl
+from-number (Refused Weights) = refl
+from-number (Refused Buffer) = refl
+
+-- a contract that gives the number gives the verdict
+pub number-settles : (v w : Verdict) → numberOf v ≡ numberOf w → v ≡ w
+number-settles v w e = sym (from-number v) ∙ ap (λ (n : ℕ). getD verdicts n Accepted) e ∙ from-number w
+
 -- no refusal has the number 0, which is that of an accepted input
 positive : (x : Refusal) → refusalNumber x ≡ 0 → ⊥
-positive Length h = omega arith
-positive Record h = omega arith
-positive Order h = omega arith
-positive Metres h = omega arith
-positive Place h = omega arith
-positive Cranes h = omega arith
-positive Calls h = omega arith
-positive Triangle h = omega arith
-positive Plan h = omega arith
-positive Weights h = omega arith
-positive Buffer h = omega arith
+positive x h = let z : _≡_ {A = ℕ} 0 1 = cc (number-settles (Refused x) Accepted h) in omega arith
 
 pub unless-zero : (b : Bool) (k : ℕ) → unless b (suc k) ≡ 0 → b ≡ true
 unless-zero true k h = refl

@@ -7,7 +7,6 @@ use Rattle.base.specs.declared.Verdict.{Verdict}
 use Rattle.base.specs.declared.Verdict.the-variants.{Accepted, Refused}
 
 infixr 20 _then_
-
 -- the column "Returned" of the refusal table
 abbrev pub refusalNumber : Refusal → ℕ
 refusalNumber Length = 1

@@ -1,20 +1,31 @@
-// The refusals of the desk and the answer of a test, shared by every layer.
-// Stands on nothing.
+// What every layer shares: the refusals with their numbers and the answer of a test; in specs/, tests over all numbers
+// below a bound and the laws of a metric. Stands on nothing.
 ghost use mathlib.Core.Path.{_≡_};
 ghost use Rattle.base.specs.Numbers.{numberOf};
 
-// One case for each row of document 01's refusal table.
+// One case for each row of document 01's refusal table, 1 to 11.
 pub enum Refusal {
+    // The length of a file.
     Length,
+    // The kind of a record, or a byte of it that must be 0.
     Record,
+    // A record out of order, or legs missing; in memory, the number of places.
     Order,
+    // The metres of a leg; in memory, a self-leg or two directions too.
     Metres,
+    // A place not below the number of places.
     Place,
+    // The number of cranes.
     Cranes,
+    // The number of calls.
     Calls,
+    // Three places that break the triangle rule.
     Triangle,
+    // The plan.
     Plan,
+    // The weights.
     Weights,
+    // An output buffer shorter than the result.
     Buffer,
 }
 

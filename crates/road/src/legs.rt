@@ -1,8 +1,8 @@
 // The legs of a lent table: 0 from a place to itself, else within the limits of a leg and the same both ways.
-use base::Refusal;
-use base::Verdict;
 use crate::Road;
 use crate::Table;
+use base::Refusal;
+use base::Verdict;
 ghost use mathlib.Core.Path.{_≡_};
 ghost use Prim.Native.Nat.{_<_, _≤_};
 ghost use Rattle.base.specs.Numbers.{numberOf, unless};

@@ -13,6 +13,7 @@ ghost use Rattle.road.specs.Table.{distance, entry, placesRefusal, metre
 // entries at or past that number are ignored.
 pub type Table = [[u32; Road::PLACES]; Road::PLACES];
 
+// The road table's limits and functions. The table itself is an array, which no struct here holds.
 pub struct Road {}
 
 impl Road {

@@ -1,7 +1,7 @@
 // The triangle rule of a lent table: no way by a third place is shorter than the road.
+use crate::Table;
 use base::Refusal;
 use base::Verdict;
-use crate::Table;
 ghost use mathlib.Core.Path.{_≡_};
 ghost use Prim.Native.Nat.{_+_, _<_, _≤_};
 ghost use lib.Dec.{leb};

@@ -1,10 +1,10 @@
+-- `road::Road::metres` meets its contract: past the rows or the columns an entry is 0, and within them it is the table's.
+-- Assumes nothing.
 use mathlib.Core.Path.{sym}
-use Rattle.road.proofs.Table.{entry-in, entry-past-rows, entry-past-columns}
 use borrow.Author.Needs.{needs}
+use Rattle.road.proofs.Table.{entry-in, entry-past-rows, entry-past-columns}
 use Rattle.road.proofs.Road.metres.Statement.{statement}
 use Rattle.road.proofs.Road.metres.Tie as tie
-use Rattle.road.proofs.Road.metres.Reads as reads
-use Rattle.road.proofs.Road.metres.Lts as lts
 
 returns : tie.Need-returns
 returns c = rw (entry-past-rows _ _ _ (c .if1 .taken))

@@ -1,11 +1,11 @@
+-- `road::legs::test_leg` meets its contract: its branches are the cases of `legRule`, and the metres decide where two
+-- different places have the same way there and back.
+-- Assumes nothing.
+use borrow.Author.Needs.{needs}
 use Rattle.road.specs.Table.{distance}
 use Rattle.road.proofs.Table.{self-leg-zero, self-leg-long, leg-even, leg-uneven}
-use borrow.Author.Needs.{needs}
 use Rattle.road.proofs.legs.test_leg.Statement.{statement}
 use Rattle.road.proofs.legs.test_leg.Tie as tie
-use Rattle.road.proofs.legs.test_leg.Reads as reads
-use Rattle.road.proofs.legs.test_leg.Lts as lts
-use Rattle.road.proofs.Road.test_metres.Reads as test-metres-reads
 
 mul-there : tie.Need-mul-there
 mul-there c = search needs
@@ -20,10 +20,14 @@ index-2-there : tie.Need-index-2-there
 index-2-there c = search needs
 
 returns : tie.Need-returns
-returns c = rw (self-leg-zero (distance (c .before .before .before .args .table .now)) _ _ (c .before .if1 .taken) (c .if2 .taken))
+returns c =
+    let a = c .before .before .before .args in
+    rw (self-leg-zero (distance (a .table .now)) (a .u) (a .v) (c .before .if1 .taken) (c .if2 .taken))
 
 returns-2 : tie.Need-returns-2
-returns-2 c = rw (self-leg-long (distance (c .before .before .before .args .table .now)) _ _ (c .before .if1 .taken) (c .if2 .left))
+returns-2 c =
+    let a = c .before .before .before .args in
+    rw (self-leg-long (distance (a .table .now)) (a .u) (a .v) (c .before .if1 .taken) (c .if2 .left))
 
 mul-if3 : tie.Need-mul-if3
 mul-if3 c = search needs
@@ -41,10 +45,15 @@ test-metres-requires : tie.Need-test-metres-requires
 test-metres-requires c κs = search needs
 
 returns-3 : tie.Need-returns-3
-returns-3 c = rw (leg-even (distance (c .before .before .before .before .before .args .table .now)) _ _ (c .before .before .before .if1 .left) (c .before .if3 .taken)) (c .test-metres .ensures)
+returns-3 c =
+    let a = c .before .before .before .before .before .args in
+    rw (leg-even (distance (a .table .now)) (a .u) (a .v) (c .before .before .before .if1 .left) (c .before .if3 .taken))
+    (c .test-metres .ensures)
 
 returns-4 : tie.Need-returns-4
-returns-4 c = rw (leg-uneven (distance (c .before .before .before .before .args .table .now)) _ _ (c .before .before .if1 .left) (c .if3 .left))
+returns-4 c =
+    let a = c .before .before .before .before .args in
+    rw (leg-uneven (distance (a .table .now)) (a .u) (a .v) (c .before .before .if1 .left) (c .if3 .left))
 
 pub test-leg-spec : {M : Type 1} → statement M
 test-leg-spec =
