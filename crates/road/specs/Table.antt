@@ -27,6 +27,7 @@ metresRule m = within 1 1000000 m
 unfoldable pub legRule : (ℕ → ℕ → ℕ) → ℕ → ℕ → Bool
 legRule d u v = cond (eqb u v) (eqb (d u v) 0) (eqb (d u v) (d v u) && metresRule (d u v))
 
+-- the rule of a leg, for every two places
 abbrev pub legsRule : ℕ → (ℕ → ℕ → ℕ) → Bool
 legsRule n d = allBelow n (λ u. allBelow n (legRule d u))
 
