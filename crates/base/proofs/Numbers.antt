@@ -49,18 +49,34 @@ pub then-zero : (s t : ℕ) → (s then t) ≡ 0 → (s ≡ 0) × (t ≡ 0)
 then-zero zero t h = (refl, h)
 then-zero (suc s) t h = absurd (let z : suc s ≡ 0 = h in omega arith)
 
+-- a rule and the tests after it, where none refuses
+pub first-of : (b : Bool) (k t : ℕ) → (unless b (suc k) then t) ≡ 0 → (b ≡ true) × (t ≡ 0)
+first-of b k t h = let both = then-zero (unless b (suc k)) t h in (unless-zero b k (both .0), both .1)
+
+-- a test that is known to accept, asked again, leaves the next to decide
+pub asked-again : (s t n : ℕ) → s ≡ 0 → n ≡ (s then t) → n ≡ t
+asked-again s t n e h = h ∙ ap (λ (k : ℕ). k then t) e
+
 module _ (v : Verdict) where
+  -- an accepted verdict: no refusal applies
+  pub accepts : (s : ℕ) → v ≡ Accepted → numberOf v ≡ s → s ≡ 0
+  accepts s e h = sym h ∙ ap numberOf e
+
   -- an accepted verdict: the rule holds
   pub holds : (b : Bool) (k : ℕ) → v ≡ Accepted → numberOf v ≡ unless b (suc k) → b ≡ true
-  holds b k e h = unless-zero b k (sym h ∙ ap numberOf e)
+  holds b k e h = unless-zero b k (accepts (unless b (suc k)) e h)
 
   -- an accepted verdict: the test after it decides
   pub goes-on : (s t n : ℕ) → v ≡ Accepted → numberOf v ≡ s → n ≡ t → n ≡ (s then t)
-  goes-on s t n e h q = q ∙ sym (ap (λ (k : ℕ). k then t) (sym h ∙ ap numberOf e))
+  goes-on s t n e h q = q ∙ sym (ap (λ (k : ℕ). k then t) (accepts s e h))
 
   module _ (x : Refusal) (e : v ≡ Refused x) where
+    -- a refusal has a number other than 0
+    pub refused-number : numberOf v ≡ 0 → ⊥
+    refused-number h = positive x (sym (ap numberOf e) ∙ h)
+
     broken : (b : Bool) (r : ℕ) → numberOf v ≡ unless b r → b ≡ false
-    broken true r h = absurd (positive x (sym (ap numberOf e) ∙ h))
+    broken true r h = absurd (refused-number h)
     broken false r h = refl
 
     -- a refusal of one is a refusal of all, under the same number
@@ -69,5 +85,5 @@ module _ (v : Verdict) where
 
     -- a refusal is handed up with its number, whatever test was to come after it
     pub handed-up : (s t : ℕ) → numberOf v ≡ s → numberOf v ≡ (s then t)
-    handed-up zero t h = absurd (positive x (sym (ap numberOf e) ∙ h))
+    handed-up zero t h = absurd (refused-number h)
     handed-up (suc s) t h = h

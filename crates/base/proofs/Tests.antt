@@ -6,10 +6,20 @@ use mathlib.Core.Logic.{⊎-elim}
 use mathlib.Core.Path.{_≡_, refl, sym, subst, ap₂}
 use borrow.Author.Tests.{le-leb, lt-leb, leb-true}
 use lib.Dec.{leb}
+use native.Mathlib.Decide.{ℕ-discrete, decLt}
 use native.Mathlib.Nat.{not-suc-le-zero, eq-or-lt-of-le, le-of-suc-le-suc, le-antisymm, le-of-lt, le-refl}
 use native.Mathlib.Numerals.{add-one}
 use native.Mathlib.Omega.{arith}
 use Rattle.base.specs.Tests.{within, allBelow}
+
+-- which of two numbers is the lower
+pub by-order : (u v : ℕ) {P : Type 0} → (u < v → P) → (u ≡ v → P) → (v < u → P) → P
+by-order u v {P} lower same higher = pick (decLt u v) (ℕ-discrete u v)
+  where
+    pick : Dec (u < v) → Dec (u ≡ v) → P
+    pick (yes l) _ = lower l
+    pick (no n) (yes e) = same e
+    pick (no n) (no m) = higher (omega arith)
 
 module _ (lo hi n : ℕ) where
   pub within-yes : lo ≤ n → n ≤ hi → within lo hi n ≡ true
@@ -23,6 +33,10 @@ module _ (lo hi n : ℕ) where
   pub within-above : hi < n → within lo hi n ≡ false
   unfolding within
   within-above p = rw (lt-leb n hi p) (and-false (leb lo n))
+
+  pub within-least : within lo hi n ≡ true → lo ≤ n
+  unfolding within
+  within-least h = leb-true lo n (and-eq-true-iff (leb lo n) (leb n hi) .0 h .0)
 
   pub within-most : within lo hi n ≡ true → n ≤ hi
   unfolding within
@@ -43,6 +57,11 @@ module _ (P : ℕ → Bool) where
   below-fails (suc n) i lt h =
       ⊎-elim (λ e. rw (subst (λ (k : ℕ). P k ≡ false) e h) (and-false (allBelow n P))) (λ (l : i < n). rw (below-fails n i l h))
       (eq-or-lt-of-le (le-of-suc-le-suc lt))
+
+pub below-all : (P : ℕ → Bool) (n : ℕ) → ((i : ℕ) → i < n → P i ≡ true) → allBelow n P ≡ true
+unfolding allBelow
+below-all P zero h = refl
+below-all P (suc n) h = rw (below-all P n (λ i p. h i (le-of-lt (suc-le-suc p)))) (h n (le-refl (suc n)))
 
 -- tests that agree below n agree of all the numbers there
 pub below-same : (P Q : ℕ → Bool) (n : ℕ) → ((i : ℕ) → i < n → P i ≡ Q i) → allBelow n P ≡ allBelow n Q

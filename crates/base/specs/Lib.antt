@@ -1,3 +1,4 @@
 pub mod Numbers
 pub mod Tests
 pub mod Metric
+pub mod Lists

@@ -2,15 +2,16 @@
 -- Assumes nothing.
 use Prim.Native.Nat.{ℕ, _+_, _<_, _≤_}
 use mathlib.Core.Bool.{true, false, _&&_, and-eq-true-iff, and-false}
-use mathlib.Core.Path.{_≡_, refl, sym, _∙_}
+use mathlib.Core.Path.{_≡_, refl, sym, ap, _∙_}
 use borrow.Author.Tests.{leb-true, eq-eqb, ne-eqb, eqb-true, lt-ltb, le-ltb}
 use lib.Dec.{ltb, eqb}
 use native.Mathlib.Decide.{ℕ-discrete}
+use native.Mathlib.Omega.{arith}
 use Rattle.base.specs.Metric.{Metric}
 use Rattle.base.specs.Numbers.{_then_}
 use Rattle.base.specs.Tests.{allBelow}
 use Rattle.base.proofs.Numbers.{unless-zero, then-zero}
-use Rattle.base.proofs.Tests.{below-at, below-same}
+use Rattle.base.proofs.Tests.{by-order, below-at, below-all, below-same}
 use Rattle.road.specs.Table.{entry, metresRule, legRule, legsRule, wayRule, triangleRule, placesRefusal, legsRefusal, triangleRefusal, tableRefusal}
 
 module _ (d : ℕ → ℕ → ℕ) (u v : ℕ) where
@@ -63,6 +64,19 @@ module _ (n : ℕ) (d : ℕ → ℕ → ℕ) where
       let by = below-at (λ (b : ℕ). allBelow n (wayRule d u b)) n from v q in
       leb-true (d u w) (d u v + d v w) (below-at (wayRule d u v) n by w r)
 
+  pub leg-metres : legsRule n d ≡ true → (u v : ℕ) → u < v → v < n → metresRule (d u v) ≡ true
+  leg-metres h u v p q =
+      let rule : legRule d u v ≡ true = leg-at h u v (omega arith) q in
+      sym (leg-even d u v (λ e. omega arith) (leg-both-ways d u v rule)) ∙ rule
+
+  pub legs-hold : ((u : ℕ) → u < n → d u u ≡ 0) → ((u v : ℕ) → u < n → v < n → d u v ≡ d v u)
+      → ((u v : ℕ) → u < v → v < n → metresRule (d u v) ≡ true) → legsRule n d ≡ true
+  legs-hold self both metres =
+      below-all _ n (λ u p. below-all (legRule d u) n (λ v q. by-order u v
+      (λ (l : u < v). leg-even d u v (λ e. omega arith) (both u v p q) ∙ metres u v l q)
+      (λ (e : u ≡ v). self-leg-zero d u v e (ap (d u) (sym e) ∙ self u p))
+      (λ (l : v < u). leg-even d u v (λ e. omega arith) (both u v p q) ∙ rw (both u v p q) (metres v u l p))))
+
   -- the tests 4 and 8 make a metric, whatever the layer above tests between them
   pub tested-metric : legsRule n d ≡ true → triangleRule n d ≡ true → Metric n d
   tested-metric legs triangles = record {
@@ -84,7 +98,7 @@ module _ (n : ℕ) (d e : ℕ → ℕ → ℕ) (same : (u v : ℕ) → u < n →
   same-legs =
       below-same _ _ n (λ u p. below-same (legRule d u) (legRule e u) n (λ v q. rw (same u v p q, same v u q p)))
 
-  same-triangles : triangleRule n d ≡ triangleRule n e
+  pub same-triangles : triangleRule n d ≡ triangleRule n e
   same-triangles =
       below-same _ _ n (λ u p. below-same _ _ n (λ v q. below-same (wayRule d u v) (wayRule e u v) n (λ w r. rw (same u w p r, same u v p q, same v w q r))))
 

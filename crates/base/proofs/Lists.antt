@@ -1,0 +1,136 @@
+-- The laws of lists by their indices, by which a loop that fills one goes on, and of a list written into another.
+-- Assumes nothing.
+use Prim.Native.Nat.{ℕ, zero, suc, _+_, _-_, _<_, _≤_, zero-le, suc-le-suc}
+use mathlib.Core.List.{List, [], _∷_, _++_, map, append-assoc}
+use mathlib.Core.Path.{_≡_, refl, sym, ap, subst, _∙_}
+use lib.ListN.{length, getD, set, take, drop, replicate, length-replicate, length-set, length-append, length-drop, take-append-drop, List·getD-append}
+use lib.Seq.{set-at, drop-cons, take-at, drop-at, drop-drop, length-take-le, append-snoc, getD-take, getD-drop, ext-getD}
+use native.Mathlib.Nat.{add-zero, zero-add, add-assoc, not-suc-le-zero, le-of-suc-le-suc, le-antisymm, sub-zero, zero-sub, suc-sub-suc}
+use native.Mathlib.Numerals.{add-one}
+use native.Mathlib.Omega.{arith}
+use Rattle.base.specs.Lists.{upTo, padded, splice}
+
+module _ {A : Type 0} where
+  pub length-upTo : (n : ℕ) (f : ℕ → A) → length (upTo n f) ≡ n
+  unfolding upTo
+  length-upTo zero f = refl
+  length-upTo (suc n) f = ap suc (length-upTo n (λ i. f (suc i)))
+
+  pub getD-upTo : (n : ℕ) (f : ℕ → A) (i : ℕ) (z : A) → i < n → getD (upTo n f) i z ≡ f i
+  unfolding upTo
+  getD-upTo zero f i z h = absurd (not-suc-le-zero h)
+  getD-upTo (suc n) f zero z h = refl
+  getD-upTo (suc n) f (suc i) z h = getD-upTo n (λ j. f (suc j)) i z (le-of-suc-le-suc h)
+
+  -- rules that agree below n give the same list
+  pub upTo-same : (n : ℕ) (f g : ℕ → A) → ((i : ℕ) → i < n → f i ≡ g i) → upTo n f ≡ upTo n g
+  unfolding upTo
+  upTo-same zero f g same = refl
+  upTo-same (suc n) f g same = λ i. same 0 (suc-le-suc zero-le) i ∷ upTo-same n (λ j. f (suc j)) (λ j. g (suc j)) (λ j h. same (suc j) (suc-le-suc h)) i
+
+  upTo-suc : (n : ℕ) (f : ℕ → A) → upTo (suc n) f ≡ upTo n f ++ (f n ∷ [])
+  unfolding upTo
+  upTo-suc zero f = refl
+  upTo-suc (suc n) f = ap (λ (l : List A). f 0 ∷ l) (upTo-suc n (λ i. f (suc i)))
+
+  pub upTo-more : (n : ℕ) (f : ℕ → A) → upTo (n + 1) f ≡ upTo n f ++ (f n ∷ [])
+  upTo-more n f = rw add-one (upTo-suc n f)
+
+  -- a part of a list by its indices
+  pub part-upTo : (n : ℕ) (l : List A) (i : ℕ) (z : A) → i + n ≤ length l → take n (drop i l) ≡ upTo n (λ j. getD l (i + j) z)
+  part-upTo n l i z h =
+      let e : length (take n (drop i l)) ≡ n = length-take-le n (drop i l) (simp length-drop (omega arith)) in
+      ext-getD z (take n (drop i l)) (upTo n (λ j. getD l (i + j) z)) (e ∙ sym (length-upTo n _))
+      (λ j lt. let p : j < n = omega arith in getD-take n (drop i l) j z p ∙ getD-drop i l j z ∙ sym (getD-upTo n _ j z p))
+
+  pub take-upTo : (n : ℕ) (l : List A) (z : A) → n ≤ length l → take n l ≡ upTo n (λ j. getD l j z)
+  take-upTo n l z h =
+      part-upTo n l 0 z (rw zero-add h) ∙ upTo-same n _ _ (λ j lt. rw zero-add)
+
+  -- the entries of an array within its count
+  pub getD-padded : (m n : ℕ) (f : ℕ → A) (z y : A) (i : ℕ) → i < n → getD (padded m n f z) i y ≡ f i
+  getD-padded m n f z y i h = List·getD-append (upTo n f) _ y i (rw length-upTo h) ∙ getD-upTo n f i y h
+
+  pub take-padded : (m n : ℕ) (f : ℕ → A) (z : A) → take n (padded m n f z) ≡ upTo n f
+  take-padded m n f z = take-at (upTo n f) _ n (length-upTo n f)
+
+  -- a list's elements, each by a rule, are the rule at each index
+  pub map-by-index : {B : Type 0} (g : B → A) (l : List B) (z : B) → map g l ≡ upTo (length l) (λ i. g (getD l i z))
+  unfolding upTo
+  map-by-index g [] z = refl
+  map-by-index g (b ∷ l) z = ap (λ (m : List A). g b ∷ m) (map-by-index g l z)
+
+  pub drop-replicate : (n m : ℕ) (z : A) → drop n (replicate m z) ≡ replicate (m - n) z
+  drop-replicate zero m z = rw sub-zero
+  drop-replicate (suc n) zero z = rw zero-sub
+  drop-replicate (suc n) (suc m) z = rw suc-sub-suc (drop-replicate n m z)
+
+  pub length-take-replicate : (m n : ℕ) (z : A) → n ≤ m → length (take n (replicate m z)) ≡ n
+  length-take-replicate m n z h = length-take-le n (replicate m z) (rw length-replicate h)
+
+  -- an array of m entries z whose first n were filled by f
+  pub padded-by : (m n : ℕ) (f : ℕ → A) (z : A) (front : List A) → n ≤ m → front ≡ upTo (length (take n (replicate m z))) f
+      → front ++ drop n (replicate m z) ≡ padded m n f z
+  padded-by m n f z front h e = rw (e, length-take-replicate m n z h, drop-replicate n m z)
+
+pub map-upTo : {A B : Type 0} (g : A → B) (n : ℕ) (f : ℕ → A) → map g (upTo n f) ≡ upTo n (λ i. g (f i))
+unfolding upTo
+map-upTo g zero f = refl
+map-upTo g (suc n) f = ap (λ l. g (f 0) ∷ l) (map-upTo g n (λ i. f (suc i)))
+
+-- the invariant of a loop that fills a list up to n from the front: the first i entries are by f, the rest as they were
+pub record Filled {A : Type 0} (f : ℕ → A) (old : List A) (n : ℕ) (now : List A) (i : ℕ) : Type 0 where
+  pub most : i ≤ n
+  pub long : length now ≡ length old
+  pub same : now ≡ upTo i f ++ drop i old
+
+module _ {A : Type 0} (f : ℕ → A) where
+  module _ (old : List A) (n : ℕ) where
+    pub fill-begun : Filled f old n old 0
+    unfolding upTo
+    fill-begun = record { most = zero-le; long = refl; same = refl }
+
+    pub fill-turned : (now : List A) (i : ℕ) (a : A) → n ≤ length old → Filled f old n now i → i < n → a ≡ f i
+        → Filled f old n (set now i a) (i + 1)
+    fill-turned now i a fits p lt e =
+        let h : i < length old = omega arith in
+        record {
+          most = omega arith;
+          long = simp length-set (p .long);
+          same =
+              rw (p .same, e, drop-cons old i (f i) h, set-at (upTo i f) (getD old i (f i)) (drop (suc i) old) (f i) i (length-upTo i f), upTo-more i f, add-one i)
+              (sym (append-snoc (upTo i f) (f i) (drop (suc i) old)));
+        }
+
+    pub fill-ended : (now : List A) (i : ℕ) → Filled f old n now i → n ≤ i → now ≡ upTo n f ++ drop n old
+    fill-ended now i p le = subst (λ (k : ℕ). now ≡ upTo k f ++ drop k old) (le-antisymm (p .most) le) (p .same)
+
+  -- an array of m entries, all z at first
+  pub fill-padded : (m n : ℕ) (z : A) (now : List A) (i : ℕ) → Filled f (replicate m z) n now i → n ≤ i → now ≡ padded m n f z
+  fill-padded m n z now i p le = fill-ended (replicate m z) n now i p le ∙ rw drop-replicate
+
+-- old with nothing written into it
+pub splice-none : (at : ℕ) (old : List ℕ) → at ≤ length old → old ≡ splice at [] old
+unfolding splice
+splice-none at old h = sym (rw add-zero (take-append-drop at old))
+
+pub length-splice : (at : ℕ) (new old : List ℕ) → at + length new ≤ length old → length (splice at new old) ≡ length old
+unfolding splice
+length-splice at new old h =
+    let p : at ≤ length old = omega arith in
+    simp (length-append, length-take-le at old p, length-drop) (omega arith)
+
+-- one list written behind another is both written as one
+pub splice-on : (at : ℕ) (a b old : List ℕ) → at + (length a + length b) ≤ length old
+    → splice (at + length a) b (splice at a old) ≡ splice at (a ++ b) old
+unfolding splice
+splice-on at a b old h =
+    let p : at ≤ length old = omega arith in
+    let front : List ℕ = take at old ++ a in
+    let rest : List ℕ = drop (at + length a) old in
+    let e : length front ≡ at + length a = simp (length-append, length-take-le at old p) in
+    let far : drop (at + length a + length b) (front ++ rest) ≡ drop (at + length a + length b) old =
+    sym (drop-drop (length b) (at + length a) (front ++ rest)) ∙ ap (drop (length b)) (drop-at front rest (at + length a) e) ∙ drop-drop (length b) (at + length a) old
+    in
+    rw (← append-assoc (take at old) a rest, take-at front rest (at + length a) e, far, length-append a b, ← add-assoc at (length a) (length b))
+    (append-assoc (take at old) a _ ∙ ap (λ (l : List ℕ). take at old ++ l) (sym (append-assoc a b _)))

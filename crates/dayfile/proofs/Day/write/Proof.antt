@@ -1,0 +1,102 @@
+-- `dayfile::Day::write` meets its contract: a refusal leaves the buffer as it is, else the day's bytes are at its front.
+-- Assumes nothing.
+use Prim.Native.Nat.{_≤_}
+use mathlib.Core.Path.{_≡_}
+use borrow.Author.Needs.{needs}
+use lib.ListN.{length}
+use lib.Seq.{length-take-le}
+use native.Mathlib.Omega.{arith}
+use Rattle.base.proofs.Numbers.{accepts, refused-number}
+use Rattle.road.specs.Table.{distance}
+use Rattle.dayfile.specs.Day.{startsOf, requestsOf, dayRefusal}
+use Rattle.dayfile.specs.Legs.{legCount}
+use Rattle.dayfile.proofs.Limits.{Counted, day-tested}
+use Rattle.dayfile.proofs.Outputs.{day-refused, too-short, day-written}
+use Rattle.dayfile.proofs.legs.Laws.{leg-count-most}
+use Rattle.dayfile.proofs.Day.write.Statement.{statement}
+use Rattle.dayfile.proofs.Day.write.Tie as tie
+
+-- what the test of the day tells once it accepted
+tested : (c : tie.After-enum-told) → let a = c .before .before .before .before .args in dayRefusal (a .self) (distance (a .t2)) ≡ 0
+tested c = accepts _ _ (c .enum-told .given .1) (c .before .before .test .ensures)
+
+counted : (c : tie.After-enum-told) → let a = c .before .before .before .before .args .self in Counted (a .places) (a .cranes) (a .calls)
+counted c = day-tested _ _ (tested c) .counts
+
+legs : (c : tie.After-enum-told) → legCount (c .before .before .before .before .args .self .places) ≤ 2016
+legs c = leg-count-most _ (counted c .places)
+
+cranes : (c : tie.After-enum-told) → let a = c .before .before .before .before .args .self in length (startsOf a) ≡ a .cranes
+cranes c =
+    let len : length (c .before .before .before .before .args .self .starts) ≡ 16 = search needs in
+    length-take-le _ _ (omega (arith, counted c))
+
+calls : (c : tie.After-enum-told) → let a = c .before .before .before .before .args .self in length (requestsOf a) ≡ a .calls
+calls c =
+    let len : length (c .before .before .before .before .args .self .requests) ≡ 256 = search needs in
+    length-take-le _ _ (omega (arith, counted c))
+
+test-requires : tie.Need-test-requires
+test-requires c κs = search needs
+
+enum-told : tie.Need-enum-told
+enum-told c = search needs
+
+enum-told-2 : tie.Need-enum-told-2
+enum-told-2 c = search needs
+
+returns : tie.Need-returns
+returns c =
+    let e = c .enum-told2 .given in
+    day-refused _ _ _ _ (c .before .before .test .ensures) (refused-number _ (e .0 .0) (e .1))
+
+count-requires : tie.Need-count-requires
+count-requires c κs = counted c .places
+
+add-records : tie.Need-add-records
+add-records c = omega (arith, counted (c .before .before), legs (c .before .before))
+
+add-records-2 : tie.Need-add-records-2
+add-records-2 c = omega (arith, counted (c .before .before .before), legs (c .before .before .before))
+
+mul-length : tie.Need-mul-length
+mul-length c = omega (arith, counted (c .before .before .before), legs (c .before .before .before))
+
+returns-2 : tie.Need-returns-2
+returns-2 c =
+    let n = c .before .before .before in
+    let k = n .before in
+    too-short _ _ (cranes k) (calls k) _ (tested k) (rw (n .count .ensures) at (c .if1 .taken))
+
+put-requires : tie.Need-put-requires
+put-requires c κs =
+    let n = c .before .before .before .before .before in
+    let k = counted (n .before) in
+    (k .places, (k .cranes, (k .calls, rw (n .count .ensures) at (c .before .before .if1 .left))))
+
+same-length : tie.Need-same-length
+same-length c = search needs
+
+returns-3 : tie.Need-returns-3
+returns-3 c =
+    let t = c .before .before .before .before .before in
+    let n = t .before .before .before in
+    let k = n .before in
+    day-written _ _ (cranes k) (calls k) _ (tested k) _ _ (rw (n .count .ensures)) (t .if1 .left) (c .before .before .put .ensures)
+
+pub write-spec : {M : Type 1} → statement M
+write-spec =
+    tie.close
+    (tie.spec
+    test-requires
+    enum-told
+    enum-told-2
+    returns
+    count-requires
+    add-records
+    add-records-2
+    mul-length
+    returns-2
+    put-requires
+    same-length
+    returns-3)

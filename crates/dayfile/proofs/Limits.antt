@@ -1,0 +1,89 @@
+-- What the tests of a day say: a day is accepted if its counts, legs, stops and ways are within the rules, and only then.
+-- Assumes nothing.
+use Prim.Native.Nat.{ℕ, _<_, _≤_}
+use mathlib.Core.Bool.{true}
+use mathlib.Core.Path.{_≡_}
+use borrow.Author.Tests.{leb-true, le-leb, ltb-true, lt-ltb}
+use lib.Dec.{ltb}
+use lib.ListN.{length, getD}
+use Rattle.base.specs.Lists.{upTo}
+use Rattle.base.proofs.Lists.{length-upTo, getD-upTo, map-upTo}
+use Rattle.base.proofs.Numbers.{unless-zero, then-zero, first-of}
+use Rattle.base.proofs.Tests.{within-yes, within-least, within-most, below-at, below-all}
+use Rattle.road.specs.Table.{placesRule, placesRefusal, legsRule, triangleRule}
+use Rattle.dayfile.specs.declared.Day.{Day}
+use Rattle.dayfile.specs.Day.{cranesRule, callsRule, stopsRule, countsRefusal, startsOf, requestsOf, dayRefusal, stop, dayRecords}
+use Rattle.dayfile.proofs.Indices.{laid}
+
+-- stops by a rule are places of the table
+module _ (n k : ℕ) (a : ℕ → ℕ) where
+  pub stops-at : stopsRule n (upTo k a) ≡ true → (j : ℕ) → j < k → a j < n
+  stops-at h j p =
+      let here = below-at (λ i. ltb (getD (upTo k a) i 0) n) (length (upTo k a)) h j (rw length-upTo p) in
+      rw (getD-upTo k a j 0 p) at (ltb-true (getD (upTo k a) j 0) n here)
+
+  pub stops-hold : ((j : ℕ) → j < k → a j < n) → stopsRule n (upTo k a) ≡ true
+  stops-hold h = below-all _ _ (λ j p. let q : j < k = rw length-upTo at p in rw (getD-upTo k a j 0 q) (lt-ltb (a j) n (h j q)))
+
+-- what the tests of the counts say
+pub record Counted (n k m : ℕ) : Type 0 where
+  pub place : 1 ≤ n
+  pub places : n ≤ 64
+  pub crane : 1 ≤ k
+  pub cranes : k ≤ 16
+  pub calls : m ≤ 256
+
+module _ (n k m : ℕ) where
+  pub counted : countsRefusal n k m ≡ 0 → Counted n k m
+  unfolding countsRefusal
+  counted h =
+      let places = first-of (placesRule n) 2 _ h in
+      let cranes = first-of (cranesRule k) 5 _ (places .1) in
+      record {
+        place = within-least 1 64 n (places .0);
+        places = within-most 1 64 n (places .0);
+        crane = within-least 1 16 k (cranes .0);
+        cranes = within-most 1 16 k (cranes .0);
+        calls = leb-true m 256 (unless-zero (callsRule m) 6 (cranes .1));
+      }
+
+  pub placed : Counted n k m → placesRefusal n ≡ 0
+  placed h = rw (within-yes 1 64 n (h .place) (h .places))
+
+  counts-accepted : Counted n k m → countsRefusal n k m ≡ 0
+  unfolding countsRefusal
+  counts-accepted h = rw (placed h, within-yes 1 16 k (h .crane) (h .cranes), le-leb m 256 (h .calls))
+
+-- what the tests of a day say
+pub record Tested (day : Day) (d : ℕ → ℕ → ℕ) : Type 0 where
+  pub counts : Counted (day .places) (day .cranes) (day .calls)
+  pub legs : legsRule (day .places) d ≡ true
+  pub starts : stopsRule (day .places) (startsOf day) ≡ true
+  pub requests : stopsRule (day .places) (requestsOf day) ≡ true
+  pub triangles : triangleRule (day .places) d ≡ true
+
+module _ (day : Day) (d : ℕ → ℕ → ℕ) where
+  pub day-tested : dayRefusal day d ≡ 0 → Tested day d
+  unfolding dayRefusal
+  day-tested h =
+      let counts = then-zero (countsRefusal (day .places) (day .cranes) (day .calls)) _ h in
+      let legs = first-of (legsRule (day .places) d) 3 _ (counts .1) in
+      let starts = first-of (stopsRule (day .places) (startsOf day)) 4 _ (legs .1) in
+      let requests = first-of (stopsRule (day .places) (requestsOf day)) 4 _ (starts .1) in
+      record {
+        counts = counted (day .places) (day .cranes) (day .calls) (counts .0);
+        legs = legs .0;
+        starts = starts .0;
+        requests = requests .0;
+        triangles = unless-zero (triangleRule (day .places) d) 7 (requests .1);
+      }
+
+  pub day-accepted : Tested day d → dayRefusal day d ≡ 0
+  unfolding dayRefusal
+  day-accepted h =
+      rw (counts-accepted (day .places) (day .cranes) (day .calls) (h .counts), h .legs, h .starts, h .requests, h .triangles)
+
+  pub day-laid : (a b : ℕ → ℕ) → startsOf day ≡ upTo (day .cranes) a → requestsOf day ≡ upTo (day .calls) b
+      → dayRecords day d ≡ laid d (day .places) a (day .cranes) b (day .calls)
+  unfolding dayRecords
+  day-laid a b starts requests = rw (starts, requests, map-upTo (stop 2), map-upTo (stop 3))

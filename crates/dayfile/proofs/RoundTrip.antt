@@ -1,0 +1,181 @@
+-- The two round trips of document 01: a file that is read and written is the same file, and a day that is written and read is the same day.
+-- Assumes nothing.
+use Prim.Native.Nat.{ℕ, _+_, _*_, _%_, _<_, _≤_}
+use mathlib.Core.List.{List}
+use mathlib.Core.Path.{_≡_, refl, sym, ap, _∙_}
+use borrow.Author.Tests.{eqb-true, le-leb}
+use lib.Dec.{eqb}
+use lib.ListN.{length, getD}
+use native.Mathlib.Nat.{mul-mod-right}
+use native.Mathlib.Omega.{arith}
+use Rattle.base.specs.Lists.{upTo, splice}
+use Rattle.base.specs.Metric.{Metric}
+use Rattle.base.proofs.Lists.{upTo-same, take-upTo, take-padded}
+use Rattle.base.proofs.Numbers.{unless-zero, first-of}
+use Rattle.base.proofs.Tests.{by-order}
+use Rattle.road.specs.Table.{distance, triangleRule}
+use Rattle.road.proofs.Table.{legs-hold, tested-metric, same-triangles}
+use Rattle.dayfile.specs.declared.Day.{Day}
+use Rattle.dayfile.specs.declared.codec.Record.{Record}
+use Rattle.dayfile.specs.declared.scan.State.{State}
+use Rattle.dayfile.specs.Codec.{records, encodeAll}
+use Rattle.dayfile.specs.Day.{startsOf, requestsOf, SameDay, dayRefusal, dayRecords}
+use Rattle.dayfile.specs.File.{stopFrom, dayOf, readFile, readTable, dayBytes, writeFile}
+use Rattle.dayfile.specs.Legs.{legCount, leg, legTable, legMetres}
+use Rattle.dayfile.specs.Scan.{start, lengthRefusal}
+use Rattle.dayfile.proofs.Answers.{File, file-read, accepted-file}
+use Rattle.dayfile.proofs.Digits.{records-back, bytes-back}
+use Rattle.dayfile.proofs.Indices.{laid, Laid, laid-at, laid-out}
+use Rattle.dayfile.proofs.Limits.{Tested, stops-hold, day-tested, day-accepted, day-laid}
+use Rattle.dayfile.proofs.Grammar.{Run, Read, run-ended, run-kept, run-fits, all-read}
+use Rattle.dayfile.proofs.Runs.{state, run-day}
+use Rattle.dayfile.proofs.codec.Laws.{length-encodeAll}
+use Rattle.dayfile.proofs.legs.Laws.{leg-count-most, between-up, between-down, between-self, between-both, table-at}
+use Rattle.dayfile.proofs.scan.Laws.{Kept, kept-start}
+
+-- the day and the table of an accepted file
+module _ (bs : List ℕ) (all : List Record) (t : State) (file : File bs all t) where
+  abbrev n : ℕ
+  n = t .second
+
+  abbrev d : ℕ → ℕ → ℕ
+  d = distance (legTable n all)
+
+  abbrev a : ℕ → ℕ
+  a = stopFrom all (legCount n)
+
+  abbrev b : ℕ → ℕ
+  b = stopFrom all (legCount n + t .cranes)
+
+  starts-read : startsOf (dayOf all t) ≡ upTo (t .cranes) a
+  unfolding dayOf
+  starts-read = take-padded 16 (t .cranes) a 0
+
+  requests-read : requestsOf (dayOf all t) ≡ upTo (t .calls) b
+  unfolding dayOf
+  requests-read = take-padded 256 (t .calls) b 0
+
+  metres-read : (u v : ℕ) → u < v → v < n → d u v ≡ legMetres all u v
+  metres-read u v p q = table-at all u v n (omega arith) q ∙ between-up all u v p
+
+  kept : Kept t (0 + length all)
+  kept = run-kept (file .run) 0 kept-start
+
+  read : Read all t
+  read = all-read all (file .run)
+
+  day-read : Tested (dayOf all t) d
+  unfolding dayOf
+  day-read =
+      let ended = run-ended (file .run) in
+      record {
+        counts = record { place = omega (arith, kept .ordered); places = kept .places; crane = ended .1; cranes = kept .cranes; calls = kept .calls };
+        legs = legs-hold n d (λ u p. table-at all u u n p p ∙ between-self all u u refl)
+            (λ u v p q. table-at all u v n p q ∙ between-both all u v ∙ sym (table-at all v u n q p))
+            (λ u v p q. rw (metres-read u v p q) (read .legs v q u p .1));
+        starts = rw starts-read (stops-hold n (t .cranes) a (λ j p. read .cranes j p .1));
+        requests = rw requests-read (stops-hold n (t .calls) b (λ j p. read .calls j p .1));
+        triangles = unless-zero (triangleRule n d) 7 (file .triangles);
+      }
+
+  records-read : dayRecords (dayOf all t) d ≡ all
+  unfolding dayOf
+  records-read =
+      day-laid (dayOf all t) d a b starts-read requests-read
+      ∙ sym (laid-out d n a (t .cranes) b (t .calls) all (omega (arith, kept .index, run-ended (file .run)))
+      (record {
+        legs = λ u v p q. read .legs v q u p .0 ∙ ap (leg u v) (sym (metres-read u v p q));
+        cranes = λ j p. read .cranes j p .0;
+        calls = λ j p. read .calls j p .0;
+      }))
+
+-- file → day → file
+pub file-round-trip : (bs out : List ℕ) → ((i : ℕ) → getD bs i 0 < 256) → readFile bs .number ≡ 0 → length bs ≤ length out
+    → writeFile (readFile bs .day) (distance (readTable bs)) out ≡ record { number = 0; length = length bs; buffer = splice 0 bs out }
+unfolding writeFile lengthRefusal dayOf
+file-round-trip bs out bytes h le =
+    let all : List Record = records bs in
+    let t = accepted-file bs h in
+    let file = t .1 in
+    let whole : length bs % 12 ≡ 0 = eqb-true (length bs % 12) 0 (first-of (eqb (length bs % 12) 0) 0 _ (file .fits) .0) in
+    let back : dayBytes (dayOf all (t .0)) (d bs all (t .0) file) ≡ bs = ap encodeAll (records-read bs all (t .0) file) ∙ bytes-back bs bytes whole in
+    rw (file-read bs all (t .0) file, day-accepted _ _ (day-read bs all (t .0) file), back, le-leb (length bs) (length out) le)
+
+-- what is read of a day that was written
+pub record Back (day : Day) (d : ℕ → ℕ → ℕ) (bs : List ℕ) : Type 0 where
+  pub number : readFile bs .number ≡ 0
+  pub same : SameDay (readFile bs .day) day
+  pub metres : (u v : ℕ) → u < day .places → v < day .places → distance (readTable bs) u v ≡ d u v
+
+length-accepted : (n : ℕ) → n ≤ 2288 → lengthRefusal (12 * n) ≡ 0
+unfolding lengthRefusal
+length-accepted n h = rw (mul-mod-right 12 n, le-leb (12 * n) 27456 (omega arith))
+
+-- records at their indices, with the metres of a metric, make its table
+table-back : (all : List Record) (d : ℕ → ℕ → ℕ) (n : ℕ) (a : ℕ → ℕ) (k : ℕ) (b : ℕ → ℕ) (m : ℕ) → Laid all d n a k b m → Metric n d
+    → (u v : ℕ) → u < n → v < n → distance (legTable n all) u v ≡ d u v
+table-back all d n a k b m h metric u v p q =
+    table-at all u v n p q
+    ∙ by-order u v
+    (λ (l : u < v). between-up all u v l ∙ ap (λ (r : Record). r .metres) (h .legs u v l q))
+    (λ (e : u ≡ v). between-self all u v e ∙ sym (metric .self u p) ∙ ap (d u) e)
+    (λ (l : v < u). between-down all u v l ∙ ap (λ (r : Record). r .metres) (h .legs v u l p) ∙ metric .both-ways v u q p)
+
+module _ (day : Day) (d : ℕ → ℕ → ℕ) (tests : Tested day d) (sixteen : length (day .starts) ≡ 16) (most : length (day .requests) ≡ 256) where
+  abbrev from : ℕ → ℕ
+  from j = getD (day .starts) j 0
+
+  abbrev to : ℕ → ℕ
+  to j = getD (day .requests) j 0
+
+  starts-written : startsOf day ≡ upTo (day .cranes) from
+  starts-written = take-upTo (day .cranes) (day .starts) 0 (omega arith)
+
+  requests-written : requestsOf day ≡ upTo (day .calls) to
+  requests-written = take-upTo (day .calls) (day .requests) 0 (omega arith)
+
+  abbrev rs : List Record
+  rs = laid d (day .places) from (day .cranes) to (day .calls)
+
+  abbrev end : State
+  end = state 0 (day .places) (day .cranes) (day .calls)
+
+  at : Laid rs d (day .places) from (day .cranes) to (day .calls)
+  at = laid-at d (day .places) from (day .cranes) to (day .calls)
+
+  table : (u v : ℕ) → u < day .places → v < day .places → distance (legTable (day .places) rs) u v ≡ d u v
+  table = table-back rs d (day .places) from (day .cranes) to (day .calls) at (tested-metric (day .places) d (tests .legs) (tests .triangles))
+
+  written : File (encodeAll rs) rs end
+  written =
+      let run : Run start rs end = run-day day d from to starts-written requests-written tests in
+      let count : length rs ≤ 2288 = omega (arith, run-kept run 0 kept-start .index, leg-count-most (day .places) (tests .counts .places)) in
+      record {
+        fits = rw (length-encodeAll rs) (length-accepted (length rs) count);
+        same = records-back rs (run-fits run 0 kept-start);
+        run = run;
+        triangles = rw (same-triangles (day .places) _ d table, tests .triangles);
+      }
+
+  same-day : SameDay (dayOf rs end) day
+  unfolding dayOf
+  same-day = record {
+    places = refl;
+    cranes = refl;
+    calls = refl;
+    starts = take-padded 16 (day .cranes) _ 0 ∙ upTo-same (day .cranes) _ from (λ j p. ap (λ (r : Record). r .first) (at .cranes j p)) ∙ sym starts-written;
+    requests = take-padded 256 (day .calls) _ 0 ∙ upTo-same (day .calls) _ to (λ j p. ap (λ (r : Record). r .first) (at .calls j p)) ∙ sym requests-written;
+  }
+
+  back : Back day d (dayBytes day d)
+  unfolding dayOf
+  back =
+      let bs : List ℕ = encodeAll rs in
+      let e : readFile bs ≡ record { number = 0; index = 0; day = dayOf rs end } = file-read bs rs end written in
+      rw (day-laid day d from to starts-written requests-written)
+      (record { number = rw e; same = rw e same-day; metres = λ u v p q. rw (e, written .same) (table u v p q) })
+
+-- day → file → day
+pub day-round-trip : (day : Day) (d : ℕ → ℕ → ℕ) → dayRefusal day d ≡ 0 → length (day .starts) ≡ 16 → length (day .requests) ≡ 256
+    → Back day d (dayBytes day d)
+day-round-trip day d h sixteen most = back day d (day-tested day d h) sixteen most

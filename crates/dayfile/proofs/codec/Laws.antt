@@ -1,0 +1,119 @@
+-- The laws of a record's 12 bytes, read and written, and of the bytes of several records.
+-- Assumes nothing.
+use Prim.Native.Nat.{ℕ, suc, _+_, _*_, _/_, _<_, _≤_, zero-le}
+use mathlib.Core.List.{List, [], _∷_, _++_, append-assoc, append-nil}
+use mathlib.Core.Path.{_≡_, refl, sym, ap, subst, _∙_}
+use lib.ListN.{length, getD, set, take, drop, length-append}
+use lib.Seq.{getD-drop, sets, sets-eq}
+use native.Mathlib.Nat.{add-zero, add-suc, add-assoc, le-antisymm}
+use native.Mathlib.Numerals.{add-one}
+use native.Mathlib.Omega.{arith}
+use Rattle.base.specs.Lists.{upTo, splice}
+use Rattle.base.proofs.Lists.{length-upTo, getD-upTo, upTo-more, splice-none, length-splice, splice-on}
+use Rattle.dayfile.specs.declared.codec.Record.{Record}
+use Rattle.dayfile.specs.Codec.{two, four, decode, encode, records, encodeAll}
+use Rattle.dayfile.specs.Legs.{none}
+
+module _ (bs : List ℕ) (at : ℕ) where
+  -- the number in two bytes, by the bytes, and the number in four, by two twos
+  pub two-by-bytes : getD bs at 0 + 256 * getD bs (at + 1) 0 ≡ two (drop at bs) 0
+  two-by-bytes = simp (getD-drop, add-zero)
+
+  pub four-by-twos : two (drop at bs) 0 + 65536 * two (drop (at + 2) bs) 0 ≡ four (drop at bs) 0
+  four-by-twos = simp (getD-drop, add-zero, add-assoc) (omega arith)
+
+  -- dropping up to a number reads it at index 0
+  pub two-on : (i : ℕ) → two (drop (at + i) bs) 0 ≡ two (drop at bs) i
+  two-on i = simp (getD-drop, add-zero, add-assoc)
+
+  pub four-on : (i : ℕ) → four (drop (at + i) bs) 0 ≡ four (drop at bs) i
+  four-on i = simp (getD-drop, add-zero, add-assoc)
+
+pub length-records : (bs : List ℕ) → length (records bs) ≡ length bs / 12
+unfolding records
+length-records bs = length-upTo (length bs / 12) _
+
+-- the record of an index
+pub record-at : (bs : List ℕ) (i : ℕ) → i < length bs / 12 → getD (records bs) i none ≡ decode (drop (12 * i) bs)
+unfolding records
+record-at bs i h = getD-upTo (length bs / 12) (λ (j : ℕ). decode (drop (12 * j) bs)) i none h
+
+-- vs stored element by element from index at + k
+abbrev pub stores : List ℕ → ℕ → ℕ → List ℕ → List ℕ
+stores l at k [] = l
+stores l at k (a ∷ vs) = stores (set l (at + k) a) at (suc k) vs
+
+stores-sets : (vs l : List ℕ) (at k : ℕ) → stores l at k vs ≡ sets l (at + k) vs
+stores-sets [] l at k = refl
+stores-sets (a ∷ vs) l at k = rw (← add-suc) (stores-sets vs (set l (at + k) a) at (suc k))
+
+-- what straight-line code leaves that stores a list from index at
+pub stored : (a : ℕ) (vs old : List ℕ) (at : ℕ) → at + length (a ∷ vs) ≤ length old
+    → stores (set old at a) at 1 vs ≡ splice at (a ∷ vs) old
+unfolding splice
+stored a vs old at h =
+    stores-sets vs (set old at a) at 1 ∙ rw add-one (sets-eq (a ∷ vs) old at h ∙ append-assoc (take at old) (a ∷ vs) _)
+
+length-encode : (r : Record) → length (encode r) ≡ 12
+unfolding encode
+length-encode r = refl
+
+pub encodeAll-append : (rs qs : List Record) → encodeAll (rs ++ qs) ≡ encodeAll rs ++ encodeAll qs
+unfolding encodeAll
+encodeAll-append [] qs = refl
+encodeAll-append (r ∷ rs) qs = rw (encodeAll-append rs qs) (sym (append-assoc (encode r) (encodeAll rs) (encodeAll qs)))
+
+encodeAll-one : (r : Record) → encodeAll (r ∷ []) ≡ encode r
+unfolding encodeAll
+encodeAll-one r = append-nil (encode r)
+
+pub length-encodeAll : (rs : List Record) → length (encodeAll rs) ≡ 12 * length rs
+unfolding encodeAll
+length-encodeAll [] = refl
+length-encodeAll (r ∷ rs) = simp (length-append, length-encode, length-encodeAll rs) (omega arith)
+
+module _ (from : ℕ) (rs : List Record) (old : List ℕ) where
+  -- a buffer with records written into it is as long as it was
+  length-put : 12 * (from + length rs) ≤ length old → length (splice (12 * from) (encodeAll rs) old) ≡ length old
+  length-put h = length-splice (12 * from) (encodeAll rs) old (rw length-encodeAll (omega arith))
+
+  -- records written behind others are all of them written
+  pub put-on : (qs : List Record) → 12 * (from + length (rs ++ qs)) ≤ length old
+      → splice (12 * (from + length rs)) (encodeAll qs) (splice (12 * from) (encodeAll rs) old) ≡ splice (12 * from) (encodeAll (rs ++ qs)) old
+  put-on qs h =
+      let e : 12 * (from + length rs) ≡ 12 * from + length (encodeAll rs) = rw length-encodeAll (omega arith) in
+      rw (encodeAll-append rs qs, e)
+      (splice-on (12 * from) (encodeAll rs) (encodeAll qs) old (rw (length-encodeAll rs, length-encodeAll qs) (omega (arith, length-append rs qs))))
+
+-- the invariant of a loop that writes records one behind another, from the record of index from: after i turns of n those of first i
+pub record Put (first : ℕ → List Record) (from : ℕ) (old : List ℕ) (n : ℕ) (now : List ℕ) (i : ℕ) : Type 0 where
+  pub most : i ≤ n
+  pub long : length now ≡ length old
+  pub same : now ≡ splice (12 * from) (encodeAll (first i)) old
+
+module _ (first : ℕ → List Record) (from : ℕ) (old : List ℕ) (n : ℕ) where
+  pub put-begun : first 0 ≡ [] → 12 * from ≤ length old → Put first from old n old 0
+  unfolding encodeAll
+  put-begun e h = record { most = zero-le; long = refl; same = rw e (splice-none (12 * from) old h) }
+
+  -- a turn writes the records qs
+  pub put-turned : (now new : List ℕ) (i : ℕ) (qs : List Record) → first (i + 1) ≡ first i ++ qs → 12 * (from + length (first (i + 1))) ≤ length old
+      → Put first from old n now i → i < n → new ≡ splice (12 * (from + length (first i))) (encodeAll qs) now → Put first from old n new (i + 1)
+  put-turned now new i qs more fits p lt e =
+      let q : new ≡ splice (12 * from) (encodeAll (first (i + 1))) old = e ∙ rw (p .same, more) (put-on from (first i) old qs (rw more at fits)) in
+      record { most = omega arith; long = ap length q ∙ length-put from (first (i + 1)) old fits; same = q }
+
+  pub put-ended : (now : List ℕ) (i : ℕ) → Put first from old n now i → n ≤ i → now ≡ splice (12 * from) (encodeAll (first n)) old
+  put-ended now i p le = subst (λ (k : ℕ). now ≡ splice (12 * from) (encodeAll (first k)) old) (le-antisymm (p .most) le) (p .same)
+
+-- a loop that writes one record a turn, that of its index
+module _ (next : ℕ → Record) (from : ℕ) (old : List ℕ) (n : ℕ) (fits : 12 * (from + n) ≤ length old) where
+  pub put-one-begun : Put (λ i. upTo i next) from old n old 0
+  unfolding upTo
+  put-one-begun = put-begun (λ i. upTo i next) from old n refl (omega arith)
+
+  pub put-one-turned : (now new : List ℕ) (i : ℕ) (r : Record) → Put (λ i. upTo i next) from old n now i → i < n
+      → r ≡ next i → new ≡ splice (12 * (from + i)) (encode r) now → Put (λ i. upTo i next) from old n new (i + 1)
+  put-one-turned now new i r p lt e w =
+      put-turned (λ i. upTo i next) from old n now new i (next i ∷ []) (upTo-more i next) (rw length-upTo (omega arith)) p lt
+      (rw (length-upTo i next, encodeAll-one (next i), ← e) w)

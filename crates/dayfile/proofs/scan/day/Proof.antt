@@ -1,0 +1,80 @@
+-- `dayfile::scan::day` meets its contract: the cranes' records come behind the legs, the calls' behind the cranes'.
+-- Assumes nothing.
+use Prim.Native.Nat.{ℕ, _+_}
+use mathlib.Core.List.{List}
+use mathlib.Core.Path.{_≡_, sym, ap, _∙_}
+use borrow.Author.Needs.{needs}
+use native.Mathlib.Omega.{arith}
+use Rattle.base.specs.Lists.{padded}
+use Rattle.base.proofs.Lists.{length-take-replicate, padded-by}
+use Rattle.dayfile.specs.declared.Day.{Day}
+use Rattle.dayfile.specs.declared.codec.Record.{Record}
+use Rattle.dayfile.specs.declared.scan.State.{State}
+use Rattle.dayfile.specs.Codec.{records}
+use Rattle.dayfile.specs.File.{stopFrom, dayOf}
+use Rattle.dayfile.specs.Legs.{legCount}
+use Rattle.dayfile.proofs.scan.day.Statement.{statement}
+use Rattle.dayfile.proofs.scan.day.Tie as tie
+
+made : (rs : List Record) (s : State) (starts requests : List ℕ)
+    → starts ≡ padded 16 (s .cranes) (stopFrom rs (legCount (s .second))) 0
+    → requests ≡ padded 256 (s .calls) (stopFrom rs (legCount (s .second) + s .cranes)) 0
+    → _≡_ {A = Day} (record { places = s .second; cranes = s .cranes; calls = s .calls; starts = starts; requests = requests }) (dayOf rs s)
+unfolding dayOf
+made rs s starts requests e f =
+    λ i. record { places = s .second; cranes = s .cranes; calls = s .calls; starts = e i; requests = f i }
+
+count-requires : tie.Need-count-requires
+count-requires c κs = search needs
+
+array-borrow-prefix-starts : tie.Need-array-borrow-prefix-starts
+array-borrow-prefix-starts c = search needs
+
+slice-aggregate-read : tie.Need-slice-aggregate-read
+slice-aggregate-read c = sym (length-take-replicate {A = ℕ} 16 _ 0 (c .before .before .before .pre .1 .0))
+
+read-requires : tie.Need-read-requires
+read-requires c κs =
+    let p = c .before .before .before .pre in
+    rw (c .before .count .ensures, length-take-replicate {A = ℕ} 16 _ 0 (p .1 .0)) (omega arith)
+
+add-read : tie.Need-add-read
+add-read c = search needs
+
+array-borrow-prefix-requests : tie.Need-array-borrow-prefix-requests
+array-borrow-prefix-requests c = search needs
+
+slice-aggregate-read-2 : tie.Need-slice-aggregate-read-2
+slice-aggregate-read-2 c = sym (length-take-replicate {A = ℕ} 256 _ 0 (c .before .before .before .before .before .before .pre .1 .1 .0))
+
+read-requires-2 : tie.Need-read-requires-2
+read-requires-2 c κs =
+    let n = c .before .before .before .before in
+    let p = n .before .before .pre in
+    rw (n .count .ensures, length-take-replicate {A = ℕ} 256 _ 0 (p .1 .1 .0)) (omega arith)
+
+returns : tie.Need-returns
+returns c =
+    let n = c .before .before .before .before .before .before in
+    let p = n .before .before .pre in
+    let s = n .before .before .args .s in
+    let rs = records (n .before .before .args .bytes .now) in
+    made rs s _ _
+    (padded-by 16 (s .cranes) (stopFrom rs (n .count .result)) 0 _ (p .1 .0) (c .before .before .before .before .read .ensures)
+    ∙ ap (λ (m : ℕ). padded 16 (s .cranes) (stopFrom rs m) 0) (n .count .ensures))
+    (padded-by 256 (s .calls) (stopFrom rs (n .count .result + s .cranes)) 0 _ (p .1 .1 .0) (c .before .read2 .ensures)
+    ∙ ap (λ (m : ℕ). padded 256 (s .calls) (stopFrom rs (m + s .cranes)) 0) (n .count .ensures))
+
+pub day-spec : {M : Type 1} → statement M
+day-spec =
+    tie.close
+    (tie.spec
+    count-requires
+    array-borrow-prefix-starts
+    slice-aggregate-read
+    read-requires
+    add-read
+    array-borrow-prefix-requests
+    slice-aggregate-read-2
+    read-requires-2
+    returns)

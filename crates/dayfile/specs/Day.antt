@@ -1,0 +1,63 @@
+-- The day of document 01 in memory: the first refusal that applies to it, and its records.
+use Prim.Native.Nat.{ℕ}
+use mathlib.Core.Bool.{Bool}
+use mathlib.Core.List.{List, _++_, map}
+use mathlib.Core.Path.{_≡_}
+use lib.Dec.{ltb, leb}
+use lib.ListN.{length, getD, take}
+use Rattle.base.specs.Numbers.{unless, _then_}
+use Rattle.base.specs.Tests.{within, allBelow}
+use Rattle.road.specs.Table.{placesRefusal, legsRefusal, triangleRefusal}
+use Rattle.dayfile.specs.declared.Day.{Day}
+use Rattle.dayfile.specs.declared.codec.Record.{Record}
+use Rattle.dayfile.specs.Legs.{legRecords}
+
+-- "1 to 16 cranes"
+abbrev pub cranesRule : ℕ → Bool
+cranesRule k = within 1 16 k
+
+-- "0 to 256 calls"
+abbrev pub callsRule : ℕ → Bool
+callsRule m = leb m 256
+
+-- a place of the table: "below the number of places"
+abbrev pub stopsRule : ℕ → List ℕ → Bool
+stopsRule n stops = allBelow (length stops) (λ i. ltb (getD stops i 0) n)
+
+-- 3, 6, 7
+unfoldable pub countsRefusal : ℕ → ℕ → ℕ → ℕ
+countsRefusal n k m = placesRefusal n then unless (cranesRule k) 6 then unless (callsRule m) 7
+
+-- 5
+abbrev pub stopsRefusal : ℕ → List ℕ → ℕ
+stopsRefusal n stops = unless (stopsRule n stops) 5
+
+-- "Entries past the counts .. are ignored on the way in"
+abbrev pub startsOf : Day → List ℕ
+startsOf day = take (day .cranes) (day .starts)
+
+abbrev pub requestsOf : Day → List ℕ
+requestsOf day = take (day .calls) (day .requests)
+
+-- "Two days are the same if their counts and the entries within them are."
+pub record SameDay (a b : Day) : Type 0 where
+  pub places : a .places ≡ b .places
+  pub cranes : a .cranes ≡ b .cranes
+  pub calls : a .calls ≡ b .calls
+  pub starts : startsOf a ≡ startsOf b
+  pub requests : requestsOf a ≡ requestsOf b
+
+-- "In memory: 3, 6, 7, 4, 5 (starts, calls ..), 8"
+unfoldable pub dayRefusal : Day → (ℕ → ℕ → ℕ) → ℕ
+dayRefusal day d =
+    countsRefusal (day .places) (day .cranes) (day .calls) then legsRefusal (day .places) d then
+    stopsRefusal (day .places) (startsOf day) then stopsRefusal (day .places) (requestsOf day) then
+    triangleRefusal (day .places) d
+
+-- the record of a crane or a call
+abbrev pub stop : ℕ → ℕ → Record
+stop kind p = record { kind = kind; pad = 0; first = p; second = 0; gap = 0; metres = 0 }
+
+-- "All legs come first .. Then come the cranes (starts), then the calls."
+unfoldable pub dayRecords : Day → (ℕ → ℕ → ℕ) → List Record
+dayRecords day d = legRecords d (day .places) ++ (map (stop 2) (startsOf day) ++ map (stop 3) (requestsOf day))

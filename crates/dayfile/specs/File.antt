@@ -1,0 +1,90 @@
+-- What reading and writing a day file give, for all bytes, days and buffers.
+use Prim.Native.Nat.{ℕ, zero, suc, _+_}
+use mathlib.Core.List.{List}
+use lib.Dec.{leb}
+use lib.ListN.{length, getD, replicate}
+use Rattle.base.specs.Lists.{padded, splice}
+use Rattle.base.specs.Numbers.{numberOf, unless, _then_}
+use Rattle.road.specs.Table.{distance, triangleRefusal}
+use Rattle.dayfile.specs.declared.Day.{Day}
+use Rattle.dayfile.specs.declared.Reading.{Reading}
+use Rattle.dayfile.specs.declared.Written.{Written}
+use Rattle.dayfile.specs.declared.codec.Record.{Record}
+use Rattle.dayfile.specs.declared.scan.State.{State}
+use Rattle.dayfile.specs.Codec.{records, encodeAll}
+use Rattle.dayfile.specs.Scan.{Scan, refused, counted, refuseAt, start, lengthRefusal, scan}
+use Rattle.dayfile.specs.Legs.{none, legCount, legTable}
+use Rattle.dayfile.specs.Day.{dayRefusal, dayRecords}
+
+-- the place of the j-th record from index i
+abbrev pub stopFrom : List Record → ℕ → ℕ → ℕ
+stopFrom rs i j = getD rs (i + j) none .first
+
+-- the day of a file's records
+unfoldable pub dayOf : List Record → State → Day
+dayOf rs s =
+    record {
+      places = s .second;
+      cranes = s .cranes;
+      calls = s .calls;
+      starts = padded 16 (s .cranes) (stopFrom rs (legCount (s .second))) 0;
+      requests = padded 256 (s .calls) (stopFrom rs (legCount (s .second) + s .cranes)) 0;
+    }
+
+-- "other results 0"
+abbrev pub noDay : Day
+noDay = record { places = 0; cranes = 0; calls = 0; starts = replicate 16 0; requests = replicate 256 0 }
+
+-- "then 8", with the index 0
+abbrev pub ways : List Record → Scan → Scan
+ways rs (counted s) = refuseAt 0 (triangleRefusal (s .second) (distance (legTable (s .second) rs))) (counted s)
+ways rs (refused n i) = refused n i
+
+-- "File: 1; then record by record ..; then the end: 3, 6; then 8."
+unfoldable pub tested : List ℕ → Scan
+tested bs = refuseAt 0 (lengthRefusal (length bs)) (ways (records bs) (scan 0 start (records bs)))
+
+-- the number, 0 where the file is accepted; the index that goes with it, else 0; the day
+pub record Answer : Type 0 where
+  pub number : ℕ
+  pub index : ℕ
+  pub day : Day
+
+abbrev pub answer : Reading → Answer
+answer r = record { number = numberOf (r .verdict); index = r .index; day = r .day }
+
+abbrev pub refusal : ℕ → ℕ → Answer
+refusal n i = record { number = n; index = i; day = noDay }
+
+abbrev pub answerOf : List Record → Scan → Answer
+answerOf rs (counted s) = record { number = 0; index = 0; day = dayOf rs s }
+answerOf rs (refused n i) = refusal n i
+
+unfoldable pub readFile : List ℕ → Answer
+readFile bs = answerOf (records bs) (tested bs)
+
+-- the table of a refused file has no places, so it is 0 throughout
+abbrev pub readTable : List ℕ → List (List ℕ)
+readTable bs = legTable (readFile bs .day .places) (records bs)
+
+-- the number, 0 where the day is written; how many bytes; the whole buffer
+pub record Output : Type 0 where
+  pub number : ℕ
+  pub length : ℕ
+  pub buffer : List ℕ
+
+abbrev pub written : Written → List ℕ → Output
+written r out = record { number = numberOf (r .verdict); length = r .length; buffer = out }
+
+-- "written output past the result's length is unchanged"; refused, all of it is
+abbrev pub outputOf : ℕ → List ℕ → List ℕ → Output
+outputOf zero bs out = record { number = 0; length = length bs; buffer = splice 0 bs out }
+outputOf (suc n) bs out = record { number = suc n; length = 0; buffer = out }
+
+abbrev pub dayBytes : Day → (ℕ → ℕ → ℕ) → List ℕ
+dayBytes day d = encodeAll (dayRecords day d)
+
+-- the same tests as in memory, then "output buffer shorter than the result"
+unfoldable pub writeFile : Day → (ℕ → ℕ → ℕ) → List ℕ → Output
+writeFile day d out =
+    outputOf (dayRefusal day d then unless (leb (length (dayBytes day d)) (length out)) 11) (dayBytes day d) out

@@ -1,0 +1,73 @@
+// A record's six fields, and its 12 bytes.
+ghost use mathlib.Core.Path.{_≡_};
+ghost use Prim.Native.Nat.{_+_, _≤_};
+ghost use lib.ListN.{length, drop};
+ghost use Rattle.base.specs.Lists.{splice};
+ghost use Rattle.dayfile.specs.Codec.{two, four, decode, encode};
+
+// The kinds of records.
+pub(crate) const LEG: u8 = 1;
+
+pub(crate) const CRANE: u8 = 2;
+
+pub(crate) const CALL: u8 = 3;
+
+// The fields in their order; `pad` is byte 1 and `gap` bytes 6 and 7.
+pub struct Record {
+    pub kind: u8,
+    pub pad: u8,
+    pub first: u16,
+    pub second: u16,
+    pub gap: u16,
+    pub metres: u32,
+}
+
+// The number in two bytes.
+fn read_two(bytes: &[u8], at: usize) -> u16
+    requires { ⌜ at + 2 ≤ length (now bytes) ⌝ }
+    ensures { λ r. ⌜ r ≡ two (drop at (now (bytes .entry))) 0 ⌝ }
+{
+    bytes[at] as u16 + 256 * (bytes[at + 1] as u16)
+}
+
+// The number in four bytes.
+fn read_four(bytes: &[u8], at: usize) -> u32
+    requires { ⌜ at + 4 ≤ length (now bytes) ⌝ }
+    ensures { λ r. ⌜ r ≡ four (drop at (now (bytes .entry))) 0 ⌝ }
+{
+    read_two(bytes, at) as u32 + 65_536 * (read_two(bytes, at + 2) as u32)
+}
+
+// The record in the 12 bytes from `at`.
+pub(crate) fn read(bytes: &[u8], at: usize) -> Record
+    requires { ⌜ at + 12 ≤ length (now bytes) ⌝ }
+    ensures { λ r. ⌜ r ≡ decode (drop at (now (bytes .entry))) ⌝ }
+{
+    Record {
+        kind: bytes[at],
+        pad: bytes[at + 1],
+        first: read_two(bytes, at + 2),
+        second: read_two(bytes, at + 4),
+        gap: read_two(bytes, at + 6),
+        metres: read_four(bytes, at + 8),
+    }
+}
+
+// The record's 12 bytes, into the buffer from `at`.
+pub(crate) fn put(r: Record, out: &mut [u8], at: usize)
+    requires { ⌜ at + 12 ≤ length (now out) ⌝ }
+    ensures { λ _. ⌜ now (out .exit) ≡ splice at (encode r) (now (out .entry)) ⌝ }
+{
+    out[at] = r.kind;
+    out[at + 1] = r.pad;
+    out[at + 2] = (r.first % 256) as u8;
+    out[at + 3] = (r.first / 256 % 256) as u8;
+    out[at + 4] = (r.second % 256) as u8;
+    out[at + 5] = (r.second / 256 % 256) as u8;
+    out[at + 6] = (r.gap % 256) as u8;
+    out[at + 7] = (r.gap / 256 % 256) as u8;
+    out[at + 8] = (r.metres % 256) as u8;
+    out[at + 9] = (r.metres / 256 % 256) as u8;
+    out[at + 10] = (r.metres / 256 / 256 % 256) as u8;
+    out[at + 11] = (r.metres / 256 / 256 / 256 % 256) as u8;
+}

@@ -1,0 +1,208 @@
+// The day and its file: limits, the tests of a day in memory, reading and writing. Stands on `base` and `road`.
+mod codec;
+mod legs;
+mod scan;
+mod stops;
+
+use base::Refusal;
+use base::Verdict;
+use road::Road;
+use road::Table;
+ghost use mathlib.Core.Path.{_≡_};
+ghost use Prim.Native.Nat.{_+_, _*_, _≤_};
+ghost use lib.ListN.{length};
+ghost use Rattle.base.specs.Lists.{splice};
+ghost use Rattle.base.specs.Numbers.{numberOf};
+ghost use Rattle.road.specs.Table.{distance};
+ghost use Rattle.dayfile.specs.Day.{countsRefusal, stopsRefusal, dayRefusal};
+ghost use Rattle.dayfile.specs.File.{answer, refusal, readFile, readTable, written, dayBytes, writeFile};
+ghost use Rattle.dayfile.specs.Legs.{legCount};
+
+// A day in memory, beside its road table. The entries of `starts` past the number of cranes and of `requests` past the
+// number of calls are ignored where a day is given, and 0 in a day that is returned.
+pub struct Day {
+    // How many places the road table has.
+    pub places: usize,
+    pub cranes: usize,
+    pub calls: usize,
+    // The place at which each crane starts.
+    pub starts: [u16; Day::CRANES],
+    // The place of each call, in order.
+    pub requests: [u16; Day::CALLS],
+}
+
+// What a file holds: the day, or the refusal with the index of its record, and then a day of zeros.
+pub struct Reading {
+    pub verdict: Verdict,
+    pub index: usize,
+    pub day: Day,
+}
+
+// What became of a day that was to be written: the number of bytes, or the refusal and 0.
+pub struct Written {
+    pub verdict: Verdict,
+    pub length: usize,
+}
+
+impl Day {
+    // The most cranes of a day.
+    pub const CRANES: usize = 16;
+
+    // The most calls of a day.
+    pub const CALLS: usize = 256;
+
+    // The bytes of a record.
+    pub const RECORD_LENGTH: usize = 12;
+
+    // The bytes of the longest file.
+    pub const FILE_LENGTH: usize = 27_456;
+
+    // The day of a file of any bytes.
+    pub fn read(bytes: &[u8]) -> Reading
+        ensures { λ r. ⌜ answer r ≡ readFile (now (bytes .entry)) ⌝ }
+    {
+        let long = scan::test_length(bytes.len());
+        let Verdict::Accepted = long else {
+            return refused(long, 0);
+        };
+        let found = scan::scan(bytes);
+        let verdict = found.verdict;
+        let Verdict::Accepted = verdict else {
+            return refused(verdict, found.index);
+        };
+        let state = found.state;
+        let places = state.second;
+        let table = legs::table(bytes, places);
+        let ways = Road::test_triangles(places, table);
+        let Verdict::Accepted = ways else {
+            return refused(ways, 0);
+        };
+        Reading {
+            verdict: Verdict::Accepted,
+            index: 0,
+            day: scan::day(bytes, state),
+        }
+    }
+
+    // The road table of a file of any bytes; of a refused one, the table of no places.
+    pub fn read_table(bytes: &[u8]) -> Table
+        ensures { λ r. ⌜ r ≡ readTable (now (bytes .entry)) ⌝ }
+    {
+        let reading = Day::read(bytes);
+        legs::table(bytes, reading.day.places)
+    }
+
+    // 3, then 6, then 7: whether the numbers of places, cranes and calls are within their limits.
+    pub fn test_counts(places: usize, cranes: usize, calls: usize) -> Verdict
+        ensures { λ r. ⌜ numberOf r ≡ countsRefusal places cranes calls ⌝ }
+    {
+        let placed = Road::test_places(places);
+        let Verdict::Accepted = placed else {
+            return placed;
+        };
+        if cranes < 1 {
+            return Verdict::Refused(Refusal::Cranes);
+        }
+        if Day::CRANES < cranes {
+            return Verdict::Refused(Refusal::Cranes);
+        }
+        if Day::CALLS < calls {
+            return Verdict::Refused(Refusal::Calls);
+        }
+        Verdict::Accepted
+    }
+
+    // 5 unless every stop's place is below the number of places.
+    pub fn test_stops(places: usize, stops: &[u16]) -> Verdict
+        ensures { λ r. ⌜ numberOf r ≡ stopsRefusal places (now (stops .entry)) ⌝ }
+    {
+        stops::test(places, stops)
+    }
+
+    // The whole test of a day in memory: 3, 6, 7, 4, 5, 8.
+    pub fn test(self, table: Table) -> Verdict
+        ensures { λ r. ⌜ numberOf r ≡ dayRefusal self (distance table) ⌝ }
+    {
+        let places = self.places;
+        let cranes = self.cranes;
+        let calls = self.calls;
+        let starts = self.starts;
+        let requests = self.requests;
+        let counted = Day::test_counts(places, cranes, calls);
+        let Verdict::Accepted = counted else {
+            return counted;
+        };
+        let legged = Road::test_legs(places, table);
+        let Verdict::Accepted = legged else {
+            return legged;
+        };
+        let started = Day::test_stops(places, &starts[..cranes]);
+        let Verdict::Accepted = started else {
+            return started;
+        };
+        let called = Day::test_stops(places, &requests[..calls]);
+        let Verdict::Accepted = called else {
+            return called;
+        };
+        Road::test_triangles(places, table)
+    }
+
+    // The day's file, into the front of a lent buffer; the same test, then 11 where the buffer is too short.
+    pub fn write(self, table: Table, out: &mut [u8]) -> Written
+        ensures { λ r. ⌜ written r (now (out .exit)) ≡ writeFile self (distance table) (now (out .entry)) ⌝ }
+    {
+        let tested = self.test(table);
+        let Verdict::Accepted = tested else {
+            return Written {
+                verdict: tested,
+                length: 0,
+            };
+        };
+        let records = legs::count(self.places) + self.cranes + self.calls;
+        let length = Day::RECORD_LENGTH * records;
+        if out.len() < length {
+            return Written {
+                verdict: Verdict::Refused(Refusal::Buffer),
+                length: 0,
+            };
+        }
+        put(self, &table, out);
+        Written {
+            verdict: Verdict::Accepted,
+            length,
+        }
+    }
+}
+
+// A reading that is refused.
+fn refused(verdict: Verdict, index: usize) -> Reading
+    ensures { λ r. ⌜ answer r ≡ refusal (numberOf verdict) index ⌝ }
+{
+    Reading {
+        verdict,
+        index,
+        day: Day {
+            places: 0,
+            cranes: 0,
+            calls: 0,
+            starts: [0; Day::CRANES],
+            requests: [0; Day::CALLS],
+        },
+    }
+}
+
+// The records of a day, into the front of the buffer.
+fn put(day: Day, table: &Table, out: &mut [u8])
+    requires { ⌜ (day .places ≤ 64) × ((day .cranes ≤ 16) × ((day .calls ≤ 256) × (12 * (legCount (day .places) + day .cranes + day .calls) ≤ length (now out)))) ⌝ }
+    ensures { λ _. ⌜ now (out .exit) ≡ splice 0 (dayBytes day (distance (now (table .entry)))) (now (out .entry)) ⌝ }
+{
+    let places = day.places;
+    let cranes = day.cranes;
+    let calls = day.calls;
+    let starts = day.starts;
+    let requests = day.requests;
+    let legs = legs::count(places);
+    legs::put(table, places, out);
+    stops::put(codec::CRANE, &starts[..cranes], out, legs);
+    stops::put(codec::CALL, &requests[..calls], out, legs + cranes);
+}
