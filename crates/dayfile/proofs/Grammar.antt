@@ -22,19 +22,19 @@ use Rattle.dayfile.specs.declared.scan.State.{State}
 use Rattle.dayfile.specs.Day.{stop}
 use Rattle.dayfile.specs.File.{answerOf}
 use Rattle.dayfile.specs.Legs.{leg, legCount, none}
-use Rattle.dayfile.specs.Scan.{Scan, counted, refuseAt, start, after, bareRefusal, formRefusal, legRefusal, craneRefusal, callRefusal, recordRefusal, missingRefusal, endRefusal, scan}
+use Rattle.dayfile.specs.Scan.{Scan, counted, refuseAt, start, after, bareRefusal, formRefusal, legRefusal, stopRefusal, craneRefusal, callRefusal, recordRefusal, missingRefusal, endRefusal, scan}
 use Rattle.dayfile.proofs.Digits.{Fits, AllFit}
 use Rattle.dayfile.proofs.scan.Laws.{Accepted, a-leg, a-crane, a-call, accepted, leg-next, after-leg, after-crane, after-call, Kept, kept-start, kept-after}
 
 -- an accepted record is not refused
 passes : (s : State) (r : Record) → Accepted s r → recordRefusal s r ≡ 0
-unfolding recordRefusal formRefusal bareRefusal legRefusal craneRefusal callRefusal within
+unfolding recordRefusal formRefusal bareRefusal legRefusal stopRefusal craneRefusal callRefusal within
 passes s r (a-leg e k n m) =
     subst⁻¹ (λ (q : Record). recordRefusal s q ≡ 0) e
     (rw (eq-eqb (s .cranes) 0 k, eq-eqb (s .first) (s .first) refl, eq-eqb (s .second) (s .second) refl, lt-ltb (s .second) 64 n) m)
 passes s r (a-crane e f m p k) =
     subst⁻¹ (λ (q : Record). recordRefusal s q ≡ 0) e
-    (rw (eq-eqb (s .first) 0 f, eq-eqb (s .calls) 0 m, lt-ltb (r .first) (s .second) p, lt-ltb (s .cranes) 16 k))
+    (rw (eq-eqb (s .calls) 0 m, eq-eqb (s .first) 0 f, lt-ltb (r .first) (s .second) p, lt-ltb (s .cranes) 16 k))
 passes s r (a-call e f p k m) =
     subst⁻¹ (λ (q : Record). recordRefusal s q ≡ 0) e
     (rw (eq-eqb (s .first) 0 f, lt-ltb (r .first) (s .second) p, lt-ltb 0 (s .cranes) k, lt-ltb (s .calls) 256 m))

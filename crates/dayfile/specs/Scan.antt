@@ -2,7 +2,7 @@
 -- of the next leg, were one to come, and how many cranes and calls there were. Where no legs are missing the next leg's
 -- first place is 0, and its second place is the number of places: "1 more than the last second place, or 1 with no legs".
 use Prim.Native.Nat.{ℕ, zero, suc, _+_, _%_}
-use mathlib.Core.Bool.{cond}
+use mathlib.Core.Bool.{Bool, cond}
 use mathlib.Core.List.{List, [], _∷_}
 use lib.Dec.{eqb, leb, ltb}
 use Rattle.base.specs.Numbers.{unless, _then_}
@@ -59,15 +59,17 @@ missingRefusal s = unless (eqb (s .first) 0) 3
 abbrev pub placeRefusal : State → Record → ℕ
 placeRefusal s r = unless (ltb (r .first) (s .second)) 5
 
--- legs missing, or a crane after a call; its place; the "seventeenth crane"
-unfoldable pub craneRefusal : State → Record → ℕ
-craneRefusal s r =
-    missingRefusal s then unless (eqb (s .calls) 0) 3 then placeRefusal s r then unless (ltb (s .cranes) 16) 6
+-- a crane or a call: legs missing; its place; then the rule that the cranes before it must keep
+unfoldable pub stopRefusal : State → Record → Bool → ℕ
+stopRefusal s r rule = missingRefusal s then placeRefusal s r then unless rule 6
 
--- legs missing; its place; "a call before any crane"; "calls above 256"
+-- "record out of order": a crane after a call; "seventeenth crane"
+unfoldable pub craneRefusal : State → Record → ℕ
+craneRefusal s r = unless (eqb (s .calls) 0) 3 then stopRefusal s r (ltb (s .cranes) 16)
+
+-- "a call before any crane"; "calls above 256"
 unfoldable pub callRefusal : State → Record → ℕ
-callRefusal s r =
-    missingRefusal s then placeRefusal s r then unless (ltb 0 (s .cranes)) 6 then unless (ltb (s .calls) 256) 7
+callRefusal s r = stopRefusal s r (ltb 0 (s .cranes)) then unless (ltb (s .calls) 256) 7
 
 -- "each tested 2, 3, 4, 5, 6 .., 7"
 unfoldable pub recordRefusal : State → Record → ℕ

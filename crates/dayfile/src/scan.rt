@@ -13,7 +13,7 @@ ghost use lib.ListN.{length};
 ghost use Rattle.base.specs.Numbers.{numberOf};
 ghost use Rattle.dayfile.specs.Codec.{records};
 ghost use Rattle.dayfile.specs.Legs.{legCount};
-ghost use Rattle.dayfile.specs.Scan.{start, after, lengthRefusal, bareRefusal, formRefusal, legRefusal, craneRefusal, callRefusal, recordRefusal, endRefusal, counted, refuseAt};
+ghost use Rattle.dayfile.specs.Scan.{start, after, lengthRefusal, bareRefusal, formRefusal, legRefusal, stopRefusal, craneRefusal, callRefusal, recordRefusal, endRefusal, counted, refuseAt};
 ghost use Rattle.dayfile.specs.Scan as spec;
 ghost use Rattle.dayfile.specs.File.{dayOf};
 
@@ -99,38 +99,42 @@ fn test_leg(s: State, r: Record) -> Verdict
     Road::test_metres(r.metres)
 }
 
-// 3 where legs are missing or a call came before; then 5; then 6 for a crane too many.
-fn test_crane(s: State, r: Record) -> Verdict
-    ensures { λ v. ⌜ numberOf v ≡ craneRefusal s r ⌝ }
+// Of a crane or a call: 3 where legs are missing; then 5; then 6 unless the cranes before it keep their rule.
+fn test_stop(s: State, r: Record, rule: bool) -> Verdict
+    ensures { λ v. ⌜ numberOf v ≡ stopRefusal s r rule ⌝ }
 {
+    let place = r.first as usize;
+    let places = s.second;
     if s.first != 0 {
         return Verdict::Refused(Refusal::Order);
     }
-    if s.calls != 0 {
-        return Verdict::Refused(Refusal::Order);
-    }
-    if s.second <= r.first as usize {
+    if places <= place {
         return Verdict::Refused(Refusal::Place);
     }
-    if Day::CRANES <= s.cranes {
+    if !rule {
         return Verdict::Refused(Refusal::Cranes);
     }
     Verdict::Accepted
 }
 
-// 3 where legs are missing; then 5; then 6 without a crane; then 7 for a call too many.
+// 3 for a crane after a call; then as a stop, with 6 for a crane too many.
+fn test_crane(s: State, r: Record) -> Verdict
+    ensures { λ v. ⌜ numberOf v ≡ craneRefusal s r ⌝ }
+{
+    if s.calls != 0 {
+        return Verdict::Refused(Refusal::Order);
+    }
+    test_stop(s, r, s.cranes < Day::CRANES)
+}
+
+// As a stop, with 6 where no crane came before; then 7 for a call too many.
 fn test_call(s: State, r: Record) -> Verdict
     ensures { λ v. ⌜ numberOf v ≡ callRefusal s r ⌝ }
 {
-    if s.first != 0 {
-        return Verdict::Refused(Refusal::Order);
-    }
-    if s.second <= r.first as usize {
-        return Verdict::Refused(Refusal::Place);
-    }
-    if s.cranes < 1 {
-        return Verdict::Refused(Refusal::Cranes);
-    }
+    let stop = test_stop(s, r, 0 < s.cranes);
+    let Verdict::Accepted = stop else {
+        return stop;
+    };
     if Day::CALLS <= s.calls {
         return Verdict::Refused(Refusal::Calls);
     }
@@ -161,10 +165,10 @@ fn test_end(s: State) -> Verdict
     if s.first != 0 {
         return Verdict::Refused(Refusal::Order);
     }
-    if s.cranes < 1 {
-        return Verdict::Refused(Refusal::Cranes);
+    if 0 < s.cranes {
+        return Verdict::Accepted;
     }
-    Verdict::Accepted
+    Verdict::Refused(Refusal::Cranes)
 }
 
 // What has been read once the record was accepted.
@@ -172,35 +176,39 @@ fn next(s: State, r: Record) -> State
     requires { ⌜ (s .first < 64) × ((s .second ≤ 64) × ((s .cranes ≤ 16) × (s .calls ≤ 256))) ⌝ }
     ensures { λ t. ⌜ t ≡ after s r ⌝ }
 {
+    let first = s.first;
+    let second = s.second;
+    let cranes = s.cranes;
+    let calls = s.calls;
     if r.kind == codec::LEG {
-        if s.first + 1 == s.second {
+        if first + 1 == second {
             return State {
                 first: 0,
-                second: s.second + 1,
-                cranes: s.cranes,
-                calls: s.calls,
+                second: second + 1,
+                cranes,
+                calls,
             };
         }
         return State {
-            first: s.first + 1,
-            second: s.second,
-            cranes: s.cranes,
-            calls: s.calls,
+            first: first + 1,
+            second,
+            cranes,
+            calls,
         };
     }
     if r.kind == codec::CRANE {
         return State {
-            first: s.first,
-            second: s.second,
-            cranes: s.cranes + 1,
-            calls: s.calls,
+            first,
+            second,
+            cranes: cranes + 1,
+            calls,
         };
     }
     State {
-        first: s.first,
-        second: s.second,
-        cranes: s.cranes,
-        calls: s.calls + 1,
+        first,
+        second,
+        cranes,
+        calls: calls + 1,
     }
 }
 

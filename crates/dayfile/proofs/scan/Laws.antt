@@ -1,7 +1,7 @@
 -- What an accepted record is, by its kind, and what the numbers of a scan keep: they are within the limits, and together
 -- they make the number of records read. Assumes nothing.
 use Prim.Native.Nat.{ℕ, zero, suc, _+_, _<_, _≤_, zero-le}
-use mathlib.Core.Bool.{cond}
+use mathlib.Core.Bool.{Bool, true, cond}
 use mathlib.Core.List.{List}
 use mathlib.Core.Path.{_≡_, refl, sym, ap, subst⁻¹, _∙_}
 use lib.Dec.{eqb, ltb, lit<, lit≤}
@@ -21,7 +21,7 @@ use Rattle.dayfile.specs.declared.scan.State.{State}
 use Rattle.dayfile.specs.Day.{stop}
 use Rattle.dayfile.specs.Legs.{leg, legCount, none}
 use Rattle.dayfile.proofs.legs.Laws.{leg-count-more}
-use Rattle.dayfile.specs.Scan.{Scan, refused, counted, refuseAt, scan, endRefusal, byKind, start, afterLeg, after, bareRefusal, formRefusal, legRefusal, craneRefusal, callRefusal, recordRefusal}
+use Rattle.dayfile.specs.Scan.{Scan, refused, counted, refuseAt, scan, endRefusal, byKind, start, afterLeg, after, bareRefusal, formRefusal, legRefusal, stopRefusal, craneRefusal, callRefusal, recordRefusal}
 
 -- an accepted record, by its kind
 pub data Accepted (s : State) (r : Record) : Type 0 where
@@ -63,23 +63,26 @@ module _ (s : State) (r : Record) where
       a-leg (leg-form k p g (eqb-true (r .first) (s .first) (first .0)) n) (eqb-true (s .cranes) 0 (none .0))
       (rw n at (ltb-true (r .second) 64 (below .0))) (below .1)
 
+  stopped : (rule : Bool) → stopRefusal s r rule ≡ 0 → (s .first ≡ 0) × ((r .first < s .second) × (rule ≡ true))
+  unfolding stopRefusal
+  stopped rule h =
+      let legs = first-of (eqb (s .first) 0) 2 _ h in
+      let place = first-of (ltb (r .first) (s .second)) 4 _ (legs .1) in
+      (eqb-true (s .first) 0 (legs .0), (ltb-true (r .first) (s .second) (place .0), unless-zero rule 5 (place .1)))
+
   craned : r ≡ stop 2 (r .first) → craneRefusal s r ≡ 0 → Accepted s r
   unfolding craneRefusal
   craned e h =
-      let legs = first-of (eqb (s .first) 0) 2 _ h in
-      let calls = first-of (eqb (s .calls) 0) 2 _ (legs .1) in
-      let place = first-of (ltb (r .first) (s .second)) 4 _ (calls .1) in
-      a-crane e (eqb-true (s .first) 0 (legs .0)) (eqb-true (s .calls) 0 (calls .0)) (ltb-true (r .first) (s .second) (place .0))
-      (ltb-true (s .cranes) 16 (unless-zero (ltb (s .cranes) 16) 5 (place .1)))
+      let calls = first-of (eqb (s .calls) 0) 2 _ h in
+      let met = stopped (ltb (s .cranes) 16) (calls .1) in
+      a-crane e (met .0) (eqb-true (s .calls) 0 (calls .0)) (met .1 .0) (ltb-true (s .cranes) 16 (met .1 .1))
 
   called : r ≡ stop 3 (r .first) → callRefusal s r ≡ 0 → Accepted s r
   unfolding callRefusal
   called e h =
-      let legs = first-of (eqb (s .first) 0) 2 _ h in
-      let place = first-of (ltb (r .first) (s .second)) 4 _ (legs .1) in
-      let cranes = first-of (ltb 0 (s .cranes)) 5 _ (place .1) in
-      a-call e (eqb-true (s .first) 0 (legs .0)) (ltb-true (r .first) (s .second) (place .0)) (ltb-true 0 (s .cranes) (cranes .0))
-      (ltb-true (s .calls) 256 (unless-zero (ltb (s .calls) 256) 6 (cranes .1)))
+      let both = then-zero (stopRefusal s r (ltb 0 (s .cranes))) _ h in
+      let met = stopped (ltb 0 (s .cranes)) (both .0) in
+      a-call e (met .0) (met .1 .0) (ltb-true 0 (s .cranes) (met .1 .1)) (ltb-true (s .calls) 256 (unless-zero (ltb (s .calls) 256) 6 (both .1)))
 
   pub accepted : recordRefusal s r ≡ 0 → Accepted s r
   unfolding recordRefusal formRefusal
