@@ -1,5 +1,7 @@
 // Runs document 01's cases on the compiled library and prints, for each group, how many were tried and how many agree.
 // The cases marked P are proved of the definitions too, as one table: specs/Cases.antt.
+use base::Verdict;
+use dayfile::Day;
 use libc::STDOUT_FILENO;
 use road::Road;
 use road::Table;
@@ -51,6 +53,388 @@ fn tables() -> u64 {
     agree
 }
 
+const FILES_TRIED: usize = 6;
+
+// The most bytes of a file below.
+const FILE_MOST: usize = 48;
+
+// A file in each row: its length, the number and the index that reading gives, and its bytes, which are the same records
+// as in specs/Cases.antt.
+const FILES: [[u8; 3 + FILE_MOST]; FILES_TRIED] = [
+    [
+        48,
+        0,
+        0,
+        1,
+        0,
+        0,
+        0,
+        1,
+        0,
+        0,
+        0,
+        10,
+        0,
+        0,
+        0,
+        1,
+        0,
+        0,
+        0,
+        2,
+        0,
+        0,
+        0,
+        25,
+        0,
+        0,
+        0,
+        1,
+        0,
+        1,
+        0,
+        2,
+        0,
+        0,
+        0,
+        15,
+        0,
+        0,
+        0,
+        2,
+        0,
+        0,
+        0,
+        0,
+        0,
+        0,
+        0,
+        0,
+        0,
+        0,
+        0,
+    ],
+    [
+        48,
+        8,
+        0,
+        1,
+        0,
+        0,
+        0,
+        1,
+        0,
+        0,
+        0,
+        10,
+        0,
+        0,
+        0,
+        1,
+        0,
+        0,
+        0,
+        2,
+        0,
+        0,
+        0,
+        26,
+        0,
+        0,
+        0,
+        1,
+        0,
+        1,
+        0,
+        2,
+        0,
+        0,
+        0,
+        15,
+        0,
+        0,
+        0,
+        2,
+        0,
+        0,
+        0,
+        0,
+        0,
+        0,
+        0,
+        0,
+        0,
+        0,
+        0,
+    ],
+    [
+        24,
+        0,
+        0,
+        1,
+        0,
+        0,
+        0,
+        1,
+        0,
+        0,
+        0,
+        64,
+        66,
+        15,
+        0,
+        2,
+        0,
+        0,
+        0,
+        0,
+        0,
+        0,
+        0,
+        0,
+        0,
+        0,
+        0,
+        0,
+        0,
+        0,
+        0,
+        0,
+        0,
+        0,
+        0,
+        0,
+        0,
+        0,
+        0,
+        0,
+        0,
+        0,
+        0,
+        0,
+        0,
+        0,
+        0,
+        0,
+        0,
+        0,
+        0,
+    ],
+    [
+        24,
+        4,
+        0,
+        1,
+        0,
+        0,
+        0,
+        1,
+        0,
+        0,
+        0,
+        65,
+        66,
+        15,
+        0,
+        2,
+        0,
+        0,
+        0,
+        0,
+        0,
+        0,
+        0,
+        0,
+        0,
+        0,
+        0,
+        0,
+        0,
+        0,
+        0,
+        0,
+        0,
+        0,
+        0,
+        0,
+        0,
+        0,
+        0,
+        0,
+        0,
+        0,
+        0,
+        0,
+        0,
+        0,
+        0,
+        0,
+        0,
+        0,
+        0,
+    ],
+    [
+        24,
+        4,
+        0,
+        1,
+        0,
+        0,
+        0,
+        1,
+        0,
+        0,
+        0,
+        0,
+        0,
+        0,
+        0,
+        2,
+        0,
+        0,
+        0,
+        0,
+        0,
+        0,
+        0,
+        0,
+        0,
+        0,
+        0,
+        0,
+        0,
+        0,
+        0,
+        0,
+        0,
+        0,
+        0,
+        0,
+        0,
+        0,
+        0,
+        0,
+        0,
+        0,
+        0,
+        0,
+        0,
+        0,
+        0,
+        0,
+        0,
+        0,
+        0,
+    ],
+    [
+        0,
+        6,
+        0,
+        0,
+        0,
+        0,
+        0,
+        0,
+        0,
+        0,
+        0,
+        0,
+        0,
+        0,
+        0,
+        0,
+        0,
+        0,
+        0,
+        0,
+        0,
+        0,
+        0,
+        0,
+        0,
+        0,
+        0,
+        0,
+        0,
+        0,
+        0,
+        0,
+        0,
+        0,
+        0,
+        0,
+        0,
+        0,
+        0,
+        0,
+        0,
+        0,
+        0,
+        0,
+        0,
+        0,
+        0,
+        0,
+        0,
+        0,
+        0,
+    ],
+];
+
+// Whether a file that is read is written back byte for byte, past what was read unchanged.
+fn comes_back(bytes: &[u8], day: Day) -> bool {
+    let mut buffer = [7; FILE_MOST];
+    let table = Day::read_table(bytes);
+    let written = day.write(table, &mut buffer);
+    let verdict = written.verdict;
+    let Verdict::Accepted = verdict else {
+        return false;
+    };
+    let length = written.length;
+    if FILE_MOST < length {
+        return false;
+    }
+    check::same(bytes, &buffer[..length])
+}
+
+// Whether reading a file gives this number and index, and an accepted file comes back.
+fn reads(bytes: &[u8], number: u8, index: usize) -> bool {
+    let reading = Day::read(bytes);
+    let verdict = reading.verdict;
+    if base::number(verdict) != number {
+        return false;
+    }
+    if reading.index != index {
+        return false;
+    }
+    let Verdict::Accepted = verdict else {
+        return true;
+    };
+    comes_back(bytes, reading.day)
+}
+
+// Whether reading the file of a row gives what the row says.
+fn row_reads(row: [u8; 3 + FILE_MOST]) -> bool {
+    let length = row[0] as usize;
+    let number = row[1];
+    let index = row[2] as usize;
+    if FILE_MOST < length {
+        return false;
+    }
+    reads(&row[3..3 + length], number, index)
+}
+
+// How many of the files agree.
+fn files() -> u64 {
+    let mut agree = 0;
+    for i in 0..FILES_TRIED {
+        if row_reads(FILES[i]) {
+            agree += 1;
+        }
+    }
+    agree
+}
+
 // One line: a group's name, and how many of its cases were tried and agree.
 fn line(name: &[u8], tried: u64, agree: u64) {
     io::write_all(STDOUT_FILENO, name);
@@ -63,4 +447,5 @@ fn line(name: &[u8], tried: u64, agree: u64) {
 
 fn main() {
     line(b"tables", TABLES_TRIED as u64, tables());
+    line(b"files", FILES_TRIED as u64, files());
 }

@@ -27,7 +27,9 @@ fn read_two(bytes: &[u8], at: usize) -> u16
     requires { ⌜ at + 2 ≤ length (now bytes) ⌝ }
     ensures { λ r. ⌜ r ≡ two (drop at (now (bytes .entry))) 0 ⌝ }
 {
-    bytes[at] as u16 + 256 * (bytes[at + 1] as u16)
+    let low = bytes[at];
+    let high = bytes[at + 1];
+    low as u16 + 256 * (high as u16)
 }
 
 // The number in four bytes.
