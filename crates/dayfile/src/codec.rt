@@ -3,7 +3,7 @@ ghost use mathlib.Core.Path.{_≡_};
 ghost use Prim.Native.Nat.{_+_, _≤_};
 ghost use lib.ListN.{length, drop};
 ghost use Rattle.base.specs.Lists.{splice};
-ghost use Rattle.dayfile.specs.Codec.{two, four, decode, encode};
+ghost use Rattle.dayfile.specs.Codec.{bytesOf, two, four, decode, encode};
 
 // The kinds of records.
 pub(crate) const LEG: u8 = 1;
@@ -55,6 +55,26 @@ pub(crate) fn read(bytes: &[u8], at: usize) -> Record
     }
 }
 
+// A number's two bytes, into the buffer from `at`.
+fn put_two(x: u16, out: &mut [u8], at: usize)
+    requires { ⌜ at + 2 ≤ length (now out) ⌝ }
+    ensures { λ _. ⌜ now (out .exit) ≡ splice at (bytesOf 2 x) (now (out .entry)) ⌝ }
+{
+    out[at] = (x % 256) as u8;
+    out[at + 1] = (x / 256 % 256) as u8;
+}
+
+// A number's four bytes, into the buffer from `at`.
+fn put_four(x: u32, out: &mut [u8], at: usize)
+    requires { ⌜ at + 4 ≤ length (now out) ⌝ }
+    ensures { λ _. ⌜ now (out .exit) ≡ splice at (bytesOf 4 x) (now (out .entry)) ⌝ }
+{
+    out[at] = (x % 256) as u8;
+    out[at + 1] = (x / 256 % 256) as u8;
+    out[at + 2] = (x / 256 / 256 % 256) as u8;
+    out[at + 3] = (x / 256 / 256 / 256 % 256) as u8;
+}
+
 // The record's 12 bytes, into the buffer from `at`.
 pub(crate) fn put(r: Record, out: &mut [u8], at: usize)
     requires { ⌜ at + 12 ≤ length (now out) ⌝ }
@@ -62,14 +82,8 @@ pub(crate) fn put(r: Record, out: &mut [u8], at: usize)
 {
     out[at] = r.kind;
     out[at + 1] = r.pad;
-    out[at + 2] = (r.first % 256) as u8;
-    out[at + 3] = (r.first / 256 % 256) as u8;
-    out[at + 4] = (r.second % 256) as u8;
-    out[at + 5] = (r.second / 256 % 256) as u8;
-    out[at + 6] = (r.gap % 256) as u8;
-    out[at + 7] = (r.gap / 256 % 256) as u8;
-    out[at + 8] = (r.metres % 256) as u8;
-    out[at + 9] = (r.metres / 256 % 256) as u8;
-    out[at + 10] = (r.metres / 256 / 256 % 256) as u8;
-    out[at + 11] = (r.metres / 256 / 256 / 256 % 256) as u8;
+    put_two(r.first, out, at + 2);
+    put_two(r.second, out, at + 4);
+    put_two(r.gap, out, at + 6);
+    put_four(r.metres, out, at + 8);
 }

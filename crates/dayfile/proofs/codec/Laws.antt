@@ -11,7 +11,7 @@ use native.Mathlib.Omega.{arith}
 use Rattle.base.specs.Lists.{upTo, splice}
 use Rattle.base.proofs.Lists.{length-upTo, getD-upTo, upTo-more, splice-none, length-splice, splice-on}
 use Rattle.dayfile.specs.declared.codec.Record.{Record}
-use Rattle.dayfile.specs.Codec.{two, four, decode, encode, records, encodeAll}
+use Rattle.dayfile.specs.Codec.{bytesOf, two, four, decode, encode, records, encodeAll}
 use Rattle.dayfile.specs.Legs.{none}
 
 module _ (bs : List ℕ) (at : ℕ) where
@@ -53,6 +53,26 @@ pub stored : (a : ℕ) (vs old : List ℕ) (at : ℕ) → at + length (a ∷ vs)
 unfolding splice
 stored a vs old at h =
     stores-sets vs (set old at a) at 1 ∙ rw add-one (sets-eq (a ∷ vs) old at h ∙ append-assoc (take at old) (a ∷ vs) _)
+
+-- the fields, one behind another
+pub fields-put : (r : Record) (at : ℕ) (old a b c d e : List ℕ) → at + 12 ≤ length old
+    → a ≡ splice at (r .kind ∷ r .pad ∷ []) old
+    → b ≡ splice (at + 2) (bytesOf 2 (r .first)) a
+    → c ≡ splice (at + 4) (bytesOf 2 (r .second)) b
+    → d ≡ splice (at + 6) (bytesOf 2 (r .gap)) c
+    → e ≡ splice (at + 8) (bytesOf 4 (r .metres)) d
+    → e ≡ splice at (encode r) old
+unfolding encode
+fields-put r at old a b c d e fits p q s t w =
+    let kinds : List ℕ = r .kind ∷ r .pad ∷ [] in
+    let first : b ≡ splice at (kinds ++ bytesOf 2 (r .first)) old = q ∙ rw p (splice-on at kinds (bytesOf 2 (r .first)) old (omega arith)) in
+    let second : c ≡ splice at (kinds ++ bytesOf 2 (r .first) ++ bytesOf 2 (r .second)) old =
+    s ∙ rw first (splice-on at (kinds ++ bytesOf 2 (r .first)) (bytesOf 2 (r .second)) old (omega arith))
+    in
+    let third : d ≡ splice at (kinds ++ bytesOf 2 (r .first) ++ bytesOf 2 (r .second) ++ bytesOf 2 (r .gap)) old =
+    t ∙ rw second (splice-on at (kinds ++ bytesOf 2 (r .first) ++ bytesOf 2 (r .second)) (bytesOf 2 (r .gap)) old (omega arith))
+    in
+    w ∙ rw third (splice-on at (kinds ++ bytesOf 2 (r .first) ++ bytesOf 2 (r .second) ++ bytesOf 2 (r .gap)) (bytesOf 4 (r .metres)) old (omega arith))
 
 length-encode : (r : Record) → length (encode r) ≡ 12
 unfolding encode

@@ -1,12 +1,22 @@
--- `dayfile::codec::put` meets its contract: the stores, one after another, are the record's bytes written from `at`.
+-- `dayfile::codec::put` meets its contract: the fields are written one behind another.
 -- Assumes nothing.
+use Prim.Native.Nat.{ℕ, _+_}
+use mathlib.Core.List.{List}
+use mathlib.Core.Path.{_≡_}
 use borrow.Author.Needs.{needs}
-use lib.ListN.{length-set}
+use lib.ListN.{length, set, length-set}
 use native.Mathlib.Omega.{arith}
-use Rattle.dayfile.specs.Codec.{encode}
-use Rattle.dayfile.proofs.codec.Laws.{stored}
+use Rattle.dayfile.proofs.codec.Laws.{stored, fields-put}
 use Rattle.dayfile.proofs.codec.put.Statement.{statement}
 use Rattle.dayfile.proofs.codec.put.Tie as tie
+
+-- the buffer once the kind and the byte behind it are stored
+stored-two : (c : tie.Start) → List ℕ
+stored-two c = set (set (c .args .out .now) (c .args .at) (c .args .r .kind)) (c .args .at + 1) (c .args .r .pad)
+
+as-long : (c : tie.Start) → length (stored-two c) ≡ length (c .args .out .now)
+unfolding stored-two
+as-long c = simp length-set
 
 slice-write-out : tie.Need-slice-write-out
 slice-write-out c = search needs
@@ -17,106 +27,46 @@ add-out c = search needs
 slice-write-out-2 : tie.Need-slice-write-out-2
 slice-write-out-2 c = simp length-set (omega arith)
 
-cast-out : tie.Need-cast-out
-cast-out c = search needs
+add-put-two : tie.Need-add-put-two
+add-put-two c = search needs
 
-add-out-2 : tie.Need-add-out-2
-add-out-2 c = search needs
+put-two-requires : tie.Need-put-two-requires
+put-two-requires c κs = simp length-set (omega arith)
 
-slice-write-out-3 : tie.Need-slice-write-out-3
-slice-write-out-3 c = simp length-set (omega arith)
+add-put-two-2 : tie.Need-add-put-two-2
+add-put-two-2 c = search needs
 
-cast-out-2 : tie.Need-cast-out-2
-cast-out-2 c = search needs
+put-two-requires-2 : tie.Need-put-two-requires-2
+unfolding stored-two
+put-two-requires-2 c κs = omega (arith, as-long (c .before .before .before .before .before .before))
 
-add-out-3 : tie.Need-add-out-3
-add-out-3 c = search needs
+add-put-two-3 : tie.Need-add-put-two-3
+add-put-two-3 c = search needs
 
-slice-write-out-4 : tie.Need-slice-write-out-4
-slice-write-out-4 c = simp length-set (omega arith)
+put-two-requires-3 : tie.Need-put-two-requires-3
+unfolding stored-two
+put-two-requires-3 c κs = omega (arith, as-long (c .before .before .before .before .before .before .before .before .before .before))
 
-cast-out-3 : tie.Need-cast-out-3
-cast-out-3 c = search needs
+add-put-four : tie.Need-add-put-four
+add-put-four c = search needs
 
-add-out-4 : tie.Need-add-out-4
-add-out-4 c = search needs
-
-slice-write-out-5 : tie.Need-slice-write-out-5
-slice-write-out-5 c = simp length-set (omega arith)
-
-cast-out-4 : tie.Need-cast-out-4
-cast-out-4 c = search needs
-
-add-out-5 : tie.Need-add-out-5
-add-out-5 c = search needs
-
-slice-write-out-6 : tie.Need-slice-write-out-6
-slice-write-out-6 c = simp length-set (omega arith)
-
-cast-out-5 : tie.Need-cast-out-5
-cast-out-5 c = search needs
-
-add-out-6 : tie.Need-add-out-6
-add-out-6 c = search needs
-
-slice-write-out-7 : tie.Need-slice-write-out-7
-slice-write-out-7 c = simp length-set (omega arith)
-
-cast-out-6 : tie.Need-cast-out-6
-cast-out-6 c = search needs
-
-add-out-7 : tie.Need-add-out-7
-add-out-7 c = search needs
-
-slice-write-out-8 : tie.Need-slice-write-out-8
-slice-write-out-8 c = simp length-set (omega arith)
-
-cast-out-7 : tie.Need-cast-out-7
-cast-out-7 c = search needs
-
-add-out-8 : tie.Need-add-out-8
-add-out-8 c = search needs
-
-slice-write-out-9 : tie.Need-slice-write-out-9
-slice-write-out-9 c = simp length-set (omega arith)
-
-cast-out-8 : tie.Need-cast-out-8
-cast-out-8 c = search needs
-
-add-out-9 : tie.Need-add-out-9
-add-out-9 c = search needs
-
-slice-write-out-10 : tie.Need-slice-write-out-10
-slice-write-out-10 c = simp length-set (omega arith)
-
-cast-out-9 : tie.Need-cast-out-9
-cast-out-9 c = search needs
-
-add-out-10 : tie.Need-add-out-10
-add-out-10 c = search needs
-
-slice-write-out-11 : tie.Need-slice-write-out-11
-slice-write-out-11 c = simp length-set (omega arith)
-
-cast-out-10 : tie.Need-cast-out-10
-cast-out-10 c = search needs
-
-add-out-11 : tie.Need-add-out-11
-add-out-11 c =
-    let s = c .before .before .before .before .before .before .before .before .before .before in
-    omega (arith, s .pre, s .good .1 .0)
-
-slice-write-out-12 : tie.Need-slice-write-out-12
-slice-write-out-12 c = simp length-set (omega arith)
+put-four-requires : tie.Need-put-four-requires
+unfolding stored-two
+put-four-requires c κs = omega (arith, as-long (c .before .before .before .before .before .before .before .before .before .before .before .before .before .before))
 
 same-length : tie.Need-same-length
-same-length c = simp length-set
+unfolding stored-two
+same-length c = omega (arith, as-long (c .before .before .before .before .before .before .before .before .before .before .before .before .before .before .before .before .before))
 
 returns : tie.Need-returns
-unfolding encode
+unfolding stored-two
 returns c =
-    let s = c .before .before .before .before .before .before .before .before .before .before in
-    stored _ _ (s .args .out .now) (s .args .at) (s .pre)
+    let gap = c .before .before .before .before .before .before in
+    let second = gap .before .before .before .before in
+    let first = second .before .before .before .before in
+    let s = first .before .before .before in
+    fields-put (s .args .r) (s .args .at) (s .args .out .now) (stored-two s) _ _ _ _ (s .pre) (stored _ _ (s .args .out .now) (s .args .at) (omega arith))
+    (first .put-two .ensures) (second .put-two2 .ensures) (gap .put-two3 .ensures) (c .before .before .put-four .ensures)
 
 pub put-spec : {M : Type 1} → statement M
 put-spec =
@@ -125,35 +75,13 @@ put-spec =
     slice-write-out
     add-out
     slice-write-out-2
-    cast-out
-    add-out-2
-    slice-write-out-3
-    cast-out-2
-    add-out-3
-    slice-write-out-4
-    cast-out-3
-    add-out-4
-    slice-write-out-5
-    cast-out-4
-    add-out-5
-    slice-write-out-6
-    cast-out-5
-    add-out-6
-    slice-write-out-7
-    cast-out-6
-    add-out-7
-    slice-write-out-8
-    cast-out-7
-    add-out-8
-    slice-write-out-9
-    cast-out-8
-    add-out-9
-    slice-write-out-10
-    cast-out-9
-    add-out-10
-    slice-write-out-11
-    cast-out-10
-    add-out-11
-    slice-write-out-12
+    add-put-two
+    put-two-requires
+    add-put-two-2
+    put-two-requires-2
+    add-put-two-3
+    put-two-requires-3
+    add-put-four
+    put-four-requires
     same-length
     returns)
