@@ -1,5 +1,5 @@
 // What every layer shares: the refusals with their numbers and the answer of a test; in specs/, tests over all numbers
-// below a bound and the laws of a metric. Stands on nothing.
+// below a bound, lists that are filled or written into others, and the laws of a metric. Stands on nothing.
 ghost use mathlib.Core.Path.{_≡_};
 ghost use Rattle.base.specs.Numbers.{numberOf};
 

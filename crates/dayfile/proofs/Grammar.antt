@@ -3,15 +3,14 @@
 use Prim.Native.Nat.{ℕ, zero, suc, _+_, _<_, _≤_}
 use mathlib.Core.Bool.{true}
 use mathlib.Core.List.{List, [], _∷_}
-use mathlib.Core.Logic.{⊎-elim}
 use mathlib.Core.Path.{_≡_, refl, sym, ap, subst, subst⁻¹, _∙_}
+use borrow.Author.Count.{below-more}
 use borrow.Author.Tests.{eqb-true, ltb-true, eq-eqb, lt-ltb}
 use lib.Dec.{eqb, ltb, lit<}
 use lib.ListN.{length, getD, drop}
 use lib.Seq.{getD-drop, drop-drop}
 use native.Mathlib.Decide.{ℕ-discrete}
-use native.Mathlib.Nat.{add-zero, le-of-suc-le-suc, eq-or-lt-of-le}
-use native.Mathlib.Numerals.{add-one}
+use native.Mathlib.Nat.{add-zero}
 use native.Mathlib.Omega.{arith}
 use Rattle.base.specs.Tests.{within}
 use Rattle.base.proofs.Numbers.{unless-zero, then-zero}
@@ -105,9 +104,6 @@ pub record Read (all : List Record) (s : State) : Type 0 where
   pub cranes : (j : ℕ) → j < s .cranes → IsStop 2 (s .second) (getD all (legCount (s .second) + j) none)
   pub calls : (j : ℕ) → j < s .calls → IsStop 3 (s .second) (getD all (legCount (s .second) + s .cranes + j) none)
 
-one-more : (P : ℕ → Type 0) (n : ℕ) → ((j : ℕ) → j < n → P j) → P n → (j : ℕ) → j < n + 1 → P j
-one-more P n h here j p = ⊎-elim (λ (e : j ≡ n). subst⁻¹ P e here) (λ (l : j < n). h j l) (eq-or-lt-of-le (le-of-suc-le-suc (rw add-one at p)))
-
 module _ (all : List Record) (s : State) (r : Record) (i : ℕ) (at : getD all i none ≡ r) where
   -- the record read at its index
   here : (P : Record → Type 0) (j : ℕ) → i ≡ j → P r → P (getD all j none)
@@ -117,11 +113,11 @@ module _ (all : List Record) (s : State) (r : Record) (i : ℕ) (at : getD all i
   read-after (a-leg e k n m) kept h =
       let idle : s .calls ≡ 0 = kept .idle k in
       let this = here (IsLeg (s .first) (s .second)) (legCount (s .second) + s .first) (omega arith) (e, unless-zero (metresRule (r .metres)) 3 m) in
-      let row = one-more (LegAt all (s .second)) (s .first) (h .row) this in
+      let row = below-more (LegAt all (s .second)) (s .first) (h .row) this in
       subst⁻¹ (Read all) (after-leg s r (ap (λ (q : Record). q .kind) e))
       (leg-next s r (ℕ-discrete (s .first + 1) (s .second)) (Read all)
       (λ f. record {
-        legs = one-more (λ (v : ℕ). (u : ℕ) → u < v → LegAt all v u) (s .second) (h .legs) (λ u p. row u (omega arith));
+        legs = below-more (λ (v : ℕ). (u : ℕ) → u < v → LegAt all v u) (s .second) (h .legs) (λ u p. row u (omega arith));
         row = λ u p. absurd (omega arith);
         cranes = λ j p. absurd (omega arith);
         calls = λ j p. absurd (omega arith);
@@ -132,7 +128,7 @@ module _ (all : List Record) (s : State) (r : Record) (i : ℕ) (at : getD all i
       (record {
         legs = h .legs;
         row = h .row;
-        cranes = one-more _ (s .cranes) (h .cranes) (here (IsStop 2 (s .second)) (legCount (s .second) + s .cranes) (omega arith) (e, p));
+        cranes = below-more _ (s .cranes) (h .cranes) (here (IsStop 2 (s .second)) (legCount (s .second) + s .cranes) (omega arith) (e, p));
         calls = λ j q. absurd (omega arith);
       })
   read-after (a-call e f p k m) kept h =
@@ -141,7 +137,7 @@ module _ (all : List Record) (s : State) (r : Record) (i : ℕ) (at : getD all i
         legs = h .legs;
         row = h .row;
         cranes = h .cranes;
-        calls = one-more _ (s .calls) (h .calls) (here (IsStop 3 (s .second)) (legCount (s .second) + s .cranes + s .calls) (omega arith) (e, p));
+        calls = below-more _ (s .calls) (h .calls) (here (IsStop 3 (s .second)) (legCount (s .second) + s .cranes + s .calls) (omega arith) (e, p));
       })
 
 read-run : (all : List Record) {s t : State} {rs : List Record} → Run s rs t → (i : ℕ) → drop i all ≡ rs → Kept s i → Read all s → Read all t

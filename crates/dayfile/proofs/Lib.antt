@@ -6,3 +6,4 @@ pub mod Runs
 pub mod Answers
 pub mod Outputs
 pub mod RoundTrip
+pub mod Ignored

@@ -89,6 +89,13 @@ module _ (bs : List ℕ) (all : List Record) (t : State) (file : File bs all t) 
         calls = λ j p. read .calls j p .0;
       }))
 
+-- what is read passes the tests in memory
+pub file-accepted : (bs : List ℕ) → readFile bs .number ≡ 0 → dayRefusal (readFile bs .day) (distance (readTable bs)) ≡ 0
+unfolding dayOf
+file-accepted bs h =
+    let t = accepted-file bs h in
+    rw (file-read bs (records bs) (t .0) (t .1)) (day-accepted _ _ (day-read bs (records bs) (t .0) (t .1)))
+
 -- file → day → file
 pub file-round-trip : (bs out : List ℕ) → ((i : ℕ) → getD bs i 0 < 256) → readFile bs .number ≡ 0 → length bs ≤ length out
     → writeFile (readFile bs .day) (distance (readTable bs)) out ≡ record { number = 0; length = length bs; buffer = splice 0 bs out }
@@ -99,7 +106,7 @@ file-round-trip bs out bytes h le =
     let file = t .1 in
     let whole : length bs % 12 ≡ 0 = eqb-true (length bs % 12) 0 (first-of (eqb (length bs % 12) 0) 0 _ (file .fits) .0) in
     let back : dayBytes (dayOf all (t .0)) (d bs all (t .0) file) ≡ bs = ap encodeAll (records-read bs all (t .0) file) ∙ bytes-back bs bytes whole in
-    rw (file-read bs all (t .0) file, day-accepted _ _ (day-read bs all (t .0) file), back, le-leb (length bs) (length out) le)
+    rw (file-accepted bs h, file-read bs all (t .0) file, back, le-leb (length bs) (length out) le)
 
 -- what is read of a day that was written
 pub record Back (day : Day) (d : ℕ → ℕ → ℕ) (bs : List ℕ) : Type 0 where

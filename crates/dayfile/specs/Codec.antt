@@ -34,10 +34,11 @@ decode bs =
       metres = four bs 8;
     }
 
+-- the same bytes of a record that is written
 unfoldable pub encode : Record → List ℕ
 encode r = r .kind ∷ r .pad ∷ (bytesOf 2 (r .first) ++ (bytesOf 2 (r .second) ++ (bytesOf 2 (r .gap) ++ bytesOf 4 (r .metres))))
 
--- the records of a file
+-- "Records of 12 bytes, no header": the records of a file, whose length is tested before
 unfoldable pub records : List ℕ → List Record
 records bs = upTo (length bs / 12) (λ i. decode (drop (12 * i) bs))
 

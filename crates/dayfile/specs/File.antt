@@ -16,11 +16,11 @@ use Rattle.dayfile.specs.Scan.{Scan, refused, counted, refuseAt, start, 
 use Rattle.dayfile.specs.Legs.{none, legCount, legTable}
 use Rattle.dayfile.specs.Day.{dayRefusal, dayRecords}
 
--- the place of the j-th record from index i
+-- the place of the j-th record from index i: "Bytes 2-3: first place"
 abbrev pub stopFrom : List Record → ℕ → ℕ → ℕ
 stopFrom rs i j = getD rs (i + j) none .first
 
--- the day of a file's records
+-- the day of a file's records: "Then come the cranes (starts), then the calls", and 0 past the counts
 unfoldable pub dayOf : List Record → State → Day
 dayOf rs s =
     record {
@@ -60,6 +60,7 @@ abbrev pub answerOf : List Record → Scan → Answer
 answerOf rs (counted s) = record { number = 0; index = 0; day = dayOf rs s }
 answerOf rs (refused n i) = refusal n i
 
+-- "With the number goes the record's index"
 unfoldable pub readFile : List ℕ → Answer
 readFile bs = answerOf (records bs) (tested bs)
 
@@ -81,6 +82,7 @@ abbrev pub outputOf : ℕ → List ℕ → List ℕ → Output
 outputOf zero bs out = record { number = 0; length = length bs; buffer = splice 0 bs out }
 outputOf (suc n) bs out = record { number = suc n; length = 0; buffer = out }
 
+-- the file of a day
 abbrev pub dayBytes : Day → (ℕ → ℕ → ℕ) → List ℕ
 dayBytes day d = encodeAll (dayRecords day d)
 

@@ -15,6 +15,7 @@ use Rattle.dayfile.specs.declared.scan.State.{State}
 abbrev pub byKind : {A : Type 0} → ℕ → A → A → A → A
 byKind kind leg crane call = cond (eqb kind 1) leg (cond (eqb kind 2) crane call)
 
+-- before the first record: the next leg is (0,1)
 abbrev pub start : State
 start = record { first = 0; second = 1; cranes = 0; calls = 0 }
 
@@ -25,6 +26,7 @@ afterLeg s =
     (record { first = 0; second = s .second + 1; cranes = s .cranes; calls = s .calls })
     (record { first = s .first + 1; second = s .second; cranes = s .cranes; calls = s .calls })
 
+-- what has been read once the record r was accepted
 unfoldable pub after : State → Record → State
 after s r =
     byKind (r .kind) (afterLeg s)

@@ -93,7 +93,7 @@ module _ (n : ℕ) (d : ℕ → ℕ → ℕ) where
 
 -- "Entries past the counts, the road table's included, are ignored on the way in": the distances between the places decide
 module _ (n : ℕ) (d e : ℕ → ℕ → ℕ) (same : (u v : ℕ) → u < n → v < n → d u v ≡ e u v) where
-  same-legs : legsRule n d ≡ legsRule n e
+  pub same-legs : legsRule n d ≡ legsRule n e
   unfolding legRule
   same-legs =
       below-same _ _ n (λ u p. below-same (legRule d u) (legRule e u) n (λ v q. rw (same u v p q, same v u q p)))
