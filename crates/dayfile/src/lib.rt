@@ -116,7 +116,14 @@ impl Day {
     pub fn test_stops(places: usize, stops: &[u16]) -> Verdict
         ensures { λ r. ⌜ numberOf r ≡ stopsRefusal places (now (stops .entry)) ⌝ }
     {
-        stops::test(places, stops)
+        let mut i = 0;
+        while i < stops.len() {
+            if places <= stops[i] as usize {
+                return Verdict::Refused(Refusal::Place);
+            }
+            i += 1;
+        }
+        Verdict::Accepted
     }
 
     // The whole test of a day in memory: 3, 6, 7, 4, 5, 8.

@@ -1,32 +1,15 @@
-// Stops in a row, the starts or the calls of a day: their test, and their records read and written.
+// Stops in a row, the starts or the calls of a day: their records read and written.
 use crate::Day;
 use crate::codec;
 use crate::codec::Record;
-use base::Refusal;
-use base::Verdict;
 ghost use mathlib.Core.List.{map};
 ghost use mathlib.Core.Path.{_≡_};
 ghost use Prim.Native.Nat.{_+_, _*_, _≤_};
 ghost use lib.ListN.{length};
 ghost use Rattle.base.specs.Lists.{upTo, splice};
-ghost use Rattle.base.specs.Numbers.{numberOf};
 ghost use Rattle.dayfile.specs.Codec.{records, encodeAll};
-ghost use Rattle.dayfile.specs.Day.{stop, stopsRefusal};
+ghost use Rattle.dayfile.specs.Day.{stop};
 ghost use Rattle.dayfile.specs.File.{stopFrom};
-
-// 5 unless every stop's place is below the number of places.
-pub(crate) fn test(places: usize, stops: &[u16]) -> Verdict
-    ensures { λ r. ⌜ numberOf r ≡ stopsRefusal places (now (stops .entry)) ⌝ }
-{
-    let mut i = 0;
-    while i < stops.len() {
-        if places <= stops[i] as usize {
-            return Verdict::Refused(Refusal::Place);
-        }
-        i += 1;
-    }
-    Verdict::Accepted
-}
 
 // The first places of as many records as the list is long, from the record of index `from`.
 pub(crate) fn read(bytes: &[u8], from: usize, stops: &mut [u16])

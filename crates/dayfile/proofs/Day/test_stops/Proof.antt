@@ -1,4 +1,4 @@
--- `dayfile::stops::test` meets its contract: the loop passes the stops whose place is below the number of places.
+-- `dayfile::Day::test_stops` meets its contract: the loop passes the stops whose place is below the number of places.
 -- Assumes nothing.
 use Prim.Native.Nat.{ℕ, _-_}
 use mathlib.Core.Bool.{Bool}
@@ -9,8 +9,8 @@ use lib.Dec.{ltb}
 use lib.ListN.{length, getD}
 use native.Mathlib.Omega.{arith}
 use Rattle.base.proofs.Tests.{Passed, begun, turned, ended, below-fails}
-use Rattle.dayfile.proofs.stops.test.Statement.{statement}
-use Rattle.dayfile.proofs.stops.test.Tie as tie
+use Rattle.dayfile.proofs.Day.test_stops.Statement.{statement}
+use Rattle.dayfile.proofs.Day.test_stops.Tie as tie
 
 -- what the loop tests of each stop
 abbrev rule : ℕ → List ℕ → ℕ → Bool
@@ -54,8 +54,8 @@ loop-again c =
 returns-2 : tie.Need-returns-2 Inv-loop μ-loop
 returns-2 c = rw (ended _ _ (c .before .loop .i) (c .before .loop .inv) (c .loop-test .left))
 
-pub test-spec : {M : Type 1} → statement M
-test-spec =
+pub test-stops-spec : {M : Type 1} → statement M
+test-stops-spec =
     tie.close
     (tie.spec
     Inv-loop
