@@ -65,7 +65,7 @@ module _ {A : Type 0} where
   drop-replicate (suc n) zero z = rw zero-sub
   drop-replicate (suc n) (suc m) z = rw suc-sub-suc (drop-replicate n m z)
 
-  pub length-take-replicate : (m n : ℕ) (z : A) → n ≤ m → length (take n (replicate m z)) ≡ n
+  length-take-replicate : (m n : ℕ) (z : A) → n ≤ m → length (take n (replicate m z)) ≡ n
   length-take-replicate m n z h = length-take-le n (replicate m z) (rw length-replicate h)
 
   -- an array of m entries z whose first n were filled by f

@@ -4,9 +4,10 @@ use Prim.Native.Nat.{ℕ, _+_}
 use mathlib.Core.List.{List}
 use mathlib.Core.Path.{_≡_, sym, ap, _∙_}
 use borrow.Author.Needs.{needs}
+use lib.Seq.{length-take-le}
 use native.Mathlib.Omega.{arith}
 use Rattle.base.specs.Lists.{padded}
-use Rattle.base.proofs.Lists.{length-take-replicate, padded-by}
+use Rattle.base.proofs.Lists.{padded-by}
 use Rattle.dayfile.specs.declared.Day.{Day}
 use Rattle.dayfile.specs.declared.codec.Record.{Record}
 use Rattle.dayfile.specs.declared.scan.State.{State}
@@ -31,12 +32,10 @@ array-borrow-prefix-starts : tie.Need-array-borrow-prefix-starts
 array-borrow-prefix-starts c = search needs
 
 slice-aggregate-read : tie.Need-slice-aggregate-read
-slice-aggregate-read c = sym (length-take-replicate {A = ℕ} 16 _ 0 (c .before .before .before .pre .1 .0))
+slice-aggregate-read c = sym (length-take-le _ _ (c .before .before .before .pre .1 .0))
 
 read-requires : tie.Need-read-requires
-read-requires c κs =
-    let p = c .before .before .before .pre in
-    rw (c .before .count .ensures, length-take-replicate {A = ℕ} 16 _ 0 (p .1 .0)) (omega arith)
+read-requires c κs = rw (c .before .count .ensures, ← slice-aggregate-read c) (omega arith)
 
 add-read : tie.Need-add-read
 add-read c = search needs
@@ -45,13 +44,10 @@ array-borrow-prefix-requests : tie.Need-array-borrow-prefix-requests
 array-borrow-prefix-requests c = search needs
 
 slice-aggregate-read-2 : tie.Need-slice-aggregate-read-2
-slice-aggregate-read-2 c = sym (length-take-replicate {A = ℕ} 256 _ 0 (c .before .before .before .before .before .before .pre .1 .1 .0))
+slice-aggregate-read-2 c = sym (length-take-le _ _ (c .before .before .before .before .before .before .pre .1 .1 .0))
 
 read-requires-2 : tie.Need-read-requires-2
-read-requires-2 c κs =
-    let n = c .before .before .before .before in
-    let p = n .before .before .pre in
-    rw (n .count .ensures, length-take-replicate {A = ℕ} 256 _ 0 (p .1 .1 .0)) (omega arith)
+read-requires-2 c κs = rw (c .before .before .before .before .count .ensures, ← slice-aggregate-read-2 c) (omega arith)
 
 returns : tie.Need-returns
 returns c =

@@ -78,7 +78,7 @@ returns c =
     let l = c .before .before .before .before .before in
     let t = c .before .before in
     let e = c .enum-told2 .given in
-    stopped _ (l .loop .s) (l .loop .i) (t .before .read .result) (l .loop .inv) (c .before .before .before .before .loop-test .taken) (t .before .read .ensures) _
+    stopped _ (l .loop .s) (l .loop .i) (t .before .read .result) (l .loop .inv) (omega arith) (t .before .read .ensures) _
     (t .test-record .ensures) (refused-number _ (e .0 .0) (e .1))
 
 next-requires : tie.Need-next-requires Inv-loop μ-loop
@@ -94,7 +94,7 @@ loop-again : tie.Need-loop-again Inv-loop μ-loop
 loop-again c =
     let l = c .before .before .before .before .before .before in
     let t = c .before .before .before in
-    turned _ (l .loop .s) (l .loop .i) (t .before .read .result) (l .loop .inv) (c .before .before .before .before .before .loop-test .taken)
+    turned _ (l .loop .s) (l .loop .i) (t .before .read .result) (l .loop .inv) (omega arith)
     (t .before .read .ensures) (c .next .result) (sym (t .test-record .ensures) ∙ ap numberOf (c .before .enum-told .given .1)) (c .next .ensures)
 
 test-end-requires : tie.Need-test-end-requires Inv-loop μ-loop
