@@ -30,13 +30,13 @@ pub data Accepted (s : State) (r : Record) : Type 0 where
   a-call : r ≡ stop 3 (r .first) → s .first ≡ 0 → r .first < s .second → 0 < s .cranes → s .calls < 256 → Accepted s r
 
 module _ {A : Type 0} (kind : ℕ) (a b c : A) where
-  pub of-leg : kind ≡ 1 → byKind kind a b c ≡ a
+  of-leg : kind ≡ 1 → byKind kind a b c ≡ a
   of-leg e = rw e
 
-  pub of-crane : kind ≡ 2 → byKind kind a b c ≡ b
+  of-crane : kind ≡ 2 → byKind kind a b c ≡ b
   of-crane e = rw e
 
-  pub of-call : (kind ≡ 1 → ⊥) → (kind ≡ 2 → ⊥) → byKind kind a b c ≡ c
+  of-call : (kind ≡ 1 → ⊥) → (kind ≡ 2 → ⊥) → byKind kind a b c ≡ c
   of-call n m = rw (ne-eqb kind 1 n, ne-eqb kind 2 m)
 
 module _ (s : State) (r : Record) where
