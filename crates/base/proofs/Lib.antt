@@ -1,3 +1,4 @@
 pub mod Numbers
 pub mod Tests
 pub mod Lists
+pub mod Signed

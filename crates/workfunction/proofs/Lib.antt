@@ -1,0 +1,11 @@
+pub mod Lists
+pub mod Sums
+pub mod Position
+pub mod Movement
+pub mod Choice
+pub mod Plan
+pub mod Stops
+pub mod Lower
+pub mod Upper
+pub mod Witness
+pub mod Cases

@@ -1,0 +1,137 @@
+-- Sums over a list of stops and over all numbers below a bound, and the entries of a list in another order.
+-- Assumes nothing.
+use Prim.Native.Nat.{ℕ, zero, suc, _+_, _*_, _<_, _≤_, zero-le, suc-le-suc}
+use mathlib.Core.Bool.{Bool, true, false, cond}
+use mathlib.Core.List.{List, [], _∷_, _++_, List·Memᴰ, List·Memᴰ·head, List·Memᴰ·tail, List·Memᴰ·not-nil, List·Memᴰ·cases-cons, List·Permᴰ, List·Permᴰ·nil, List·Permᴰ·cons, List·Permᴰ·swap, List·Permᴰ·trans}
+use mathlib.Core.Logic.{_⊎_, inl, inr, ⊎-elim, ⊎-map}
+use mathlib.Core.Path.{_≡_, refl, sym, subst, ap, _∙_}
+use borrow.Author.Tests.{eq-eqb, ne-eqb}
+use lib.Dec.{eqb}
+use lib.ListN.{length, getD, set}
+use native.Mathlib.Nat.{zero-add, add-zero, zero-mul, one-mul, add-mul, le-refl, lt-irrefl, not-suc-le-zero, le-of-suc-le-suc, eq-or-lt-of-le}
+use native.Mathlib.Omega.{arith}
+use Rattle.base.specs.Lists.{upTo}
+use Rattle.workfunction.specs.Lists.{sumBelow}
+
+-- the sum of f over a list
+unfoldable pub total : (ℕ → ℕ) → List ℕ → ℕ
+total f [] = 0
+total f (t ∷ T) = f t + total f T
+
+pub total-order : (f : ℕ → ℕ) {T U : List ℕ} → List·Permᴰ T U → total f T ≡ total f U
+unfolding total
+total-order f List·Permᴰ·nil = refl
+total-order f (List·Permᴰ·cons {l₁ = T} {l₂ = U} e p) = rw (e, total-order f p)
+total-order f (List·Permᴰ·swap {a = a} {b = b} {l = l} e g) = rw (← e, ← g) (omega arith)
+total-order f (List·Permᴰ·trans p q) = total-order f p ∙ total-order f q
+
+-- one entry replaced
+pub total-set : (f : ℕ → ℕ) (T : List ℕ) (j i : ℕ) → j < length T → total f (set T j i) + f (getD T j 0) ≡ total f T + f i
+unfolding total
+total-set f [] j i h = absurd (not-suc-le-zero h)
+total-set f (t ∷ T) zero i h = omega arith
+total-set f (t ∷ T) (suc j) i h = let more = total-set f T j i (le-of-suc-le-suc h) in omega arith
+
+pub length-order : {A : Type 0} {T U : List A} → List·Permᴰ T U → length T ≡ length U
+length-order List·Permᴰ·nil = refl
+length-order (List·Permᴰ·cons e p) = ap suc (length-order p)
+length-order (List·Permᴰ·swap e g) = refl
+length-order (List·Permᴰ·trans p q) = length-order p ∙ length-order q
+
+pub in-order : {A : Type 0} {a : A} {T U : List A} → List·Permᴰ T U → List·Memᴰ a T → List·Memᴰ a U
+in-order List·Permᴰ·nil m = m
+in-order (List·Permᴰ·cons e p) (List·Memᴰ·head q) = List·Memᴰ·head (q ∙ e)
+in-order (List·Permᴰ·cons e p) (List·Memᴰ·tail m) = List·Memᴰ·tail (in-order p m)
+in-order (List·Permᴰ·swap e g) (List·Memᴰ·head q) = List·Memᴰ·tail (List·Memᴰ·head (q ∙ e))
+in-order (List·Permᴰ·swap e g) (List·Memᴰ·tail (List·Memᴰ·head q)) = List·Memᴰ·head (q ∙ g)
+in-order (List·Permᴰ·swap e g) (List·Memᴰ·tail (List·Memᴰ·tail m)) = List·Memᴰ·tail (List·Memᴰ·tail m)
+in-order (List·Permᴰ·trans p q) m = in-order q (in-order p m)
+
+-- the slot of an entry, and the entry of a slot
+pub slot-of : {a : ℕ} {T : List ℕ} → List·Memᴰ a T → (j : ℕ) × (j < length T) × (getD T j 0 ≡ a)
+slot-of (List·Memᴰ·head e) = (0, suc-le-suc zero-le, sym e)
+slot-of (List·Memᴰ·tail m) = let r = slot-of m in (suc (r .0), suc-le-suc (r .1), r .2)
+
+pub entry-in : (T : List ℕ) (j : ℕ) → j < length T → List·Memᴰ (getD T j 0) T
+entry-in [] j h = absurd (not-suc-le-zero h)
+entry-in (t ∷ T) zero h = List·Memᴰ·head refl
+entry-in (t ∷ T) (suc j) h = List·Memᴰ·tail (entry-in T j (le-of-suc-le-suc h))
+
+pub set-in : (T : List ℕ) (j i : ℕ) → j < length T → List·Memᴰ i (set T j i)
+set-in [] j i h = absurd (not-suc-le-zero h)
+set-in (t ∷ T) zero i h = List·Memᴰ·head refl
+set-in (t ∷ T) (suc j) i h = List·Memᴰ·tail (set-in T j i (le-of-suc-le-suc h))
+
+pub in-set : (T : List ℕ) (j i : ℕ) {a : ℕ} → List·Memᴰ a (set T j i) → (a ≡ i) ⊎ List·Memᴰ a T
+in-set [] j i m = inr m
+in-set (t ∷ T) zero i m = ⊎-map (λ e. e) List·Memᴰ·tail (List·Memᴰ·cases-cons m)
+in-set (t ∷ T) (suc j) i (List·Memᴰ·head e) = inr (List·Memᴰ·head e)
+in-set (t ∷ T) (suc j) i (List·Memᴰ·tail m) = ⊎-map (λ e. e) List·Memᴰ·tail (in-set T j i m)
+
+-- sums below a bound
+pub sum-same : (n : ℕ) (f g : ℕ → ℕ) → ((i : ℕ) → i < n → f i ≡ g i) → sumBelow n f ≡ sumBelow n g
+unfolding sumBelow
+sum-same zero f g same = refl
+sum-same (suc n) f g same = rw (sum-same n f g (λ i h. same i (omega arith)), same n (omega arith))
+
+pub sum-le : (n : ℕ) (f g : ℕ → ℕ) → ((i : ℕ) → i < n → f i ≤ g i) → sumBelow n f ≤ sumBelow n g
+unfolding sumBelow
+sum-le zero f g le = zero-le
+sum-le (suc n) f g le =
+    let before = sum-le n f g (λ i h. le i (omega arith)) in
+    let last = le n (omega arith) in
+    omega arith
+
+pub sum-plus : (n : ℕ) (f g : ℕ → ℕ) → sumBelow n (λ i. f i + g i) ≡ sumBelow n f + sumBelow n g
+unfolding sumBelow
+sum-plus zero f g = refl
+sum-plus (suc n) f g = let before = sum-plus n f g in omega arith
+
+pub sum-at : (n : ℕ) (f : ℕ → ℕ) (i : ℕ) → i < n → f i ≤ sumBelow n f
+unfolding sumBelow
+sum-at zero f i h = absurd (not-suc-le-zero h)
+sum-at (suc n) f i h = ⊎-elim (λ (e : i ≡ n). rw e (omega arith)) (λ (l : i < n). let before = sum-at n f i l in omega arith) (eq-or-lt-of-le (le-of-suc-le-suc h))
+
+sum-first : (n : ℕ) (f : ℕ → ℕ) → sumBelow (suc n) f ≡ f 0 + sumBelow n (λ i. f (suc i))
+unfolding sumBelow
+sum-first zero f = omega arith
+sum-first (suc n) f = let before = sum-first n f in omega arith
+
+pub total-upTo : (g : ℕ → ℕ) (n : ℕ) (f : ℕ → ℕ) → total g (upTo n f) ≡ sumBelow n (λ i. g (f i))
+unfolding total upTo sumBelow
+total-upTo g zero f = refl
+total-upTo g (suc n) f = rw (total-upTo g n (λ i. f (suc i))) (sym (sum-first n (λ i. g (f i))))
+
+sum-zero : (n : ℕ) → sumBelow n (λ i. 0) ≡ 0
+unfolding sumBelow
+sum-zero zero = refl
+sum-zero (suc n) = rw (sum-zero n)
+
+pub sum-swap : (n m : ℕ) (h : ℕ → ℕ → ℕ) → sumBelow n (λ i. sumBelow m (h i)) ≡ sumBelow m (λ j. sumBelow n (λ i. h i j))
+unfolding sumBelow
+sum-swap zero m h = sym (sum-zero m)
+sum-swap (suc n) m h = rw (sum-swap n m h) (sym (sum-plus m (λ j. sumBelow n (λ i. h i j)) (h n)))
+
+-- the one term that counts
+sum-none : (n b : ℕ) (g : ℕ → ℕ) → n ≤ b → sumBelow n (λ i. cond (eqb b i) (g i) 0) ≡ 0
+unfolding sumBelow
+sum-none zero b g h = refl
+sum-none (suc n) b g h = rw (sum-none n b g (omega arith), ne-eqb b n (λ e. absurd (lt-irrefl n (rw e at h))))
+
+pub sum-one : (n b : ℕ) (g : ℕ → ℕ) → b < n → sumBelow n (λ i. cond (eqb b i) (g i) 0) ≡ g b
+unfolding sumBelow
+sum-one zero b g h = absurd (not-suc-le-zero h)
+sum-one (suc n) b g h =
+    ⊎-elim (λ (e : b ≡ n). rw (sum-none n b g (rw e (le-refl n)), eq-eqb b n e, e) (zero-add (g n)))
+    (λ (l : b < n). rw (sum-one n b g l, ne-eqb b n (λ e. absurd (lt-irrefl n (rw e at l)))) (add-zero (g b)))
+    (eq-or-lt-of-le (le-of-suc-le-suc h))
+
+-- a number counted as often as a test holds
+pub sum-times : (n : ℕ) (t : ℕ → Bool) (v : ℕ) → sumBelow n (λ i. cond (t i) v 0) ≡ sumBelow n (λ i. cond (t i) 1 0) * v
+unfolding sumBelow
+sum-times zero t v = sym (zero-mul v)
+sum-times (suc n) t v = rw (sum-times n t v, add-mul (sumBelow n (λ i. cond (t i) 1 0)) (cond (t n) 1 0) v) (ap (λ (x : ℕ). sumBelow n (λ i. cond (t i) 1 0) * v + x) (go (t n)))
+  where
+    go : (b : Bool) → cond b v 0 ≡ cond b 1 0 * v
+    go true = sym (one-mul v)
+    go false = sym (zero-mul v)

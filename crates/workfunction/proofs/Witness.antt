@@ -1,0 +1,60 @@
+-- A plan with weights that vouch costs exactly w of the stands: some movement to the stands costs that, and none less. With
+-- free ends it costs exactly the floor. Assumes nothing.
+use Prim.Native.Nat.{ℕ, _+_, _<_, _≤_, zero-le}
+use mathlib.Core.Bool.{true, cond}
+use mathlib.Core.List.{List}
+use mathlib.Core.Path.{_≡_, refl, sym, ap, _∙_}
+use borrow.Author.Tests.{lt-ltb, le-ltb}
+use lib.Dec.{ltb}
+use lib.IntN.{ℤ}
+use lib.ListN.{length, getD}
+use native.Mathlib.Nat.{le-antisymm, le-trans, le-refl}
+use Rattle.base.specs.Metric.{Metric}
+use Rattle.workfunction.specs.Position.{Position}
+use Rattle.workfunction.specs.Movement.{Instance, Movement, cost, work, floor}
+use Rattle.workfunction.specs.Plan.{planRule, vouchRule, planCost, place, legCost, freeCost}
+use Rattle.workfunction.proofs.Lower.{movement-above}
+use Rattle.workfunction.proofs.Movement.{work-attained, work-below, floor-attained, floor-below}
+use Rattle.workfunction.proofs.Plan.{Plan, plan-facts, Vouched, vouch-facts}
+use Rattle.workfunction.proofs.Stops.{place-call, place-stand}
+use Rattle.workfunction.proofs.Upper.{movement-to, movement-free}
+
+module _ {n : ℕ} {d : ℕ → ℕ → ℕ} (laws : Metric n d) {starts calls : List ℕ} (day : Instance n starts calls) {f : ℕ → ℕ}
+         (plan : Plan (length starts) (length starts + length calls) f) where
+  module _ {stands : List ℕ} (standing : Position n (length starts) stands) where
+    leg-call : (p b : ℕ) → length starts ≤ b → legCost d starts calls stands p b ≡ d (place starts calls p) (place starts calls b)
+    unfolding legCost
+    leg-call p b call = ap (d (place starts calls p)) (place-call starts stands calls b (standing .cranes) call)
+
+    leg-stand : (p e : ℕ) → e < length starts → legCost d starts calls stands p e ≡ d (place starts calls p) (getD stands e 0)
+    unfolding legCost
+    leg-stand p e end = ap (d (place starts calls p)) (place-stand stands calls e (rw (standing .cranes) end))
+
+    pub plan-work : {y : ℕ → ℕ} → Vouched (length starts) (length starts + length calls) f (legCost d starts calls stands) y
+        → planCost (length starts + length calls) (legCost d starts calls stands) f ≡ work d n starts calls stands
+    plan-work vouched =
+        let best = work-attained d day stands in
+        let some = movement-to laws day plan (legCost d starts calls stands) (λ p b call low lt. rw (leg-call p b call) (le-refl _)) standing
+        (λ p e lt end. rw (leg-stand p e end) (le-refl _))
+        in
+        le-antisymm
+        (rw (← best .2) (movement-above laws day standing plan vouched (λ p b call low lt. rw (leg-call p b call) (le-refl _)) (λ p e lt end. rw (leg-stand p e end) (le-refl _)) (best .1)))
+        (le-trans (work-below d day stands (some .1)) (some .2))
+
+  free-call : (p b : ℕ) → length starts ≤ b → freeCost d starts calls p b ≡ d (place starts calls p) (place starts calls b)
+  unfolding freeCost
+  free-call p b call = rw (le-ltb b (length starts) call)
+
+  free-end : (p e : ℕ) → e < length starts → freeCost d starts calls p e ≡ 0
+  unfolding freeCost
+  free-end p e end = rw (lt-ltb e (length starts) end)
+
+  pub plan-floor : {y : ℕ → ℕ} → Vouched (length starts) (length starts + length calls) f (freeCost d starts calls) y
+      → planCost (length starts + length calls) (freeCost d starts calls) f ≡ floor d n starts calls
+  plan-floor vouched =
+      let end = floor-attained d day in
+      let best = work-attained d day (end .0) in
+      let some = movement-free laws day plan (freeCost d starts calls) (λ p b call low lt. rw (free-call p b call) (le-refl _)) in
+      le-antisymm
+      (rw (← end .2, ← best .2) (movement-above laws day (end .1) plan vouched (λ p b call low lt. rw (free-call p b call) (le-refl _)) (λ p e lt free. rw (free-end p e free) zero-le) (best .1)))
+      (le-trans (floor-below d day (some .2)) (le-trans (work-below d day (some .0) (some .3)) (some .4)))

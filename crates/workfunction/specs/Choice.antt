@@ -1,0 +1,37 @@
+-- The choice of the crane that serves a call.
+use Prim.Native.Nat.{ℕ, _+_}
+use mathlib.Core.List.{List, [], _∷_, _++_, headD}
+use lib.ListN.{length, getD, set}
+use Rattle.base.specs.Lists.{upTo}
+use Rattle.workfunction.specs.Lists.{leastBy}
+use Rattle.workfunction.specs.Position.{distance}
+use Rattle.workfunction.specs.Movement.{work}
+
+-- the number below k with the least sum; among equals the least drive; then the lowest number
+unfoldable pub preferred : (ℕ → ℕ) → (ℕ → ℕ) → ℕ → ℕ
+preferred sum drive k = headD (leastBy drive (leastBy sum (upTo k (λ s. s)))) 0
+
+-- "C(s) is the present stands with s at r"
+abbrev pub moved : List ℕ → ℕ → ℕ → List ℕ
+moved stands r s = set stands s r
+
+-- d(s,r): the way of crane s to the call
+unfoldable pub drive : (ℕ → ℕ → ℕ) → List ℕ → ℕ → ℕ → ℕ
+drive d stands r s = d (getD stands s 0) r
+
+module _ (d : ℕ → ℕ → ℕ) (n : ℕ) (starts calls stands : List ℕ) (r : ℕ) where
+  -- "w is taken with r as the last call"
+  abbrev workThen : List ℕ → ℕ
+  workThen = work d n starts (calls ++ (r ∷ []))
+
+  -- the sum of a single move: w(C(s)) + d(s,r)
+  unfoldable pub moveSum : ℕ → ℕ
+  moveSum s = workThen (moved stands r s) + drive d stands r s
+
+  -- "The crane chosen has the least w(C(s)) + d(s,r); among equals the least d(s,r); then the lowest number."
+  unfoldable pub choice : ℕ
+  choice = preferred moveSum (drive d stands r) (length stands)
+
+  -- the sum of a rearrangement: "w(C), again with r as the last call, plus the distance of the present stands and C"
+  unfoldable pub rearrangementSum : List ℕ → ℕ
+  rearrangementSum C = workThen C + distance d stands C

@@ -1,0 +1,5 @@
+pub mod Lists
+pub mod Position
+pub mod Movement
+pub mod Choice
+pub mod Plan

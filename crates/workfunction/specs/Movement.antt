@@ -1,0 +1,43 @@
+-- Movements of a book, what they cost, and the least of them.
+use Prim.Native.Nat.{ℕ, _+_, _<_}
+use mathlib.Core.Bool.{Bool, false, _||_}
+use mathlib.Core.List.{List, [], _∷_, map, List·Memᴰ, Forall₂}
+use lib.Dec.{eqb}
+use lib.ListN.{length}
+use Rattle.workfunction.specs.Lists.{least, keep, choices}
+use Rattle.workfunction.specs.Position.{Position, positions, distance}
+
+-- An instance: at least one crane, each start and each call a place of the table.
+pub record Instance (n : ℕ) (starts calls : List ℕ) : Type 0 where
+  pub crane : 0 < length starts
+  pub started : Position n (length starts) starts
+  pub called : {r : ℕ} → List·Memᴰ r calls → r < n
+
+-- "A movement of a book is a list of positions: first the starts, then one for each call in order, containing that call's
+-- place, and last its end": the positions between the starts and the end.
+abbrev pub Movement : ℕ → ℕ → List ℕ → List (List ℕ) → Type 0
+Movement n k = Forall₂ (λ r P. Position n k P × List·Memᴰ r P)
+
+-- a place is in a position
+unfoldable pub contains : ℕ → List ℕ → Bool
+contains r [] = false
+contains r (p ∷ P) = eqb r p || contains r P
+
+-- every movement
+unfoldable pub movements : ℕ → ℕ → List ℕ → List (List (List ℕ))
+movements n k calls = choices (map (λ r. keep (contains r) (positions n k)) calls)
+
+module _ (d : ℕ → ℕ → ℕ) where
+  -- "A movement costs the sum of the distances from each position to the next": from A through M to C.
+  unfoldable pub cost : List ℕ → List (List ℕ) → List ℕ → ℕ
+  cost A [] C = distance d A C
+  cost A (P ∷ M) C = distance d A P + cost P M C
+
+  module _ (n : ℕ) (starts calls : List ℕ) where
+    -- "The work function w(C) of a book is the least cost of all its movements that end at C."
+    unfoldable pub work : List ℕ → ℕ
+    work C = least (map (λ M. cost starts M C) (movements n (length starts) calls))
+
+    -- "floor" is the smallest w(C) over all C."
+    unfoldable pub floor : ℕ
+    floor = least (map work (positions n (length starts)))

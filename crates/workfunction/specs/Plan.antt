@@ -1,0 +1,55 @@
+-- Plans and the weights that vouch for them. Stops and followers are numbered alike: the stops are the starts, then the
+-- calls; the followers are the stands, then the calls. With k cranes and m calls there are k + m of each.
+use Prim.Native.Nat.{ℕ, _+_}
+use mathlib.Core.Bool.{Bool, true, cond, _&&_, _||_}
+use mathlib.Core.List.{List, _++_}
+use lib.Dec.{ltb, eqb}
+use lib.IntN.{ℤ, pos, _-ℤ_}
+use lib.ListN.{length, getD}
+use lib.Signed.{leZ}
+use Rattle.base.specs.Tests.{allBelow}
+use Rattle.workfunction.specs.Lists.{sumBelow}
+
+-- "A start may be followed by any call or any stand; a call by a later call or any stand."
+unfoldable pub mayFollow : ℕ → ℕ → ℕ → Bool
+mayFollow k p b = ltb b k || ltb p b
+
+-- 1 where b is the follower of p
+unfoldable pub follows : (ℕ → ℕ) → ℕ → ℕ → ℕ
+follows f b p = cond (eqb (f p) b) 1 0
+
+module _ (k N : ℕ) (f : ℕ → ℕ) where
+  -- "Each stop has one follower": one that may follow it
+  unfoldable pub followersRule : Bool
+  followersRule = allBelow N (λ p. ltb (f p) N && mayFollow k p (f p))
+
+  -- "Every call and every stand follows exactly one stop."
+  unfoldable pub onceRule : Bool
+  onceRule = allBelow N (λ b. eqb (sumBelow N (follows f b)) 1)
+
+  -- f is a plan
+  unfoldable pub planRule : Bool
+  planRule = followersRule && onceRule
+
+  -- "The weights vouch for the plan if for every stop p and every b that may follow p: y(b) − y(f(p)) ≤ d(p,b) − d(p,f(p))",
+  -- c p b being the cost of the leg from stop p to follower b.
+  unfoldable pub vouchRule : (ℕ → ℕ → ℕ) → (ℕ → ℤ) → Bool
+  vouchRule c y =
+      allBelow N (λ p. allBelow N (λ b. cond (mayFollow k p b) (leZ (y b -ℤ y (f p)) (pos (c p b) -ℤ pos (c p (f p)))) true))
+
+-- "Its cost is the sum of d from each stop to its follower."
+unfoldable pub planCost : ℕ → (ℕ → ℕ → ℕ) → (ℕ → ℕ) → ℕ
+planCost N c f = sumBelow N (λ p. c p (f p))
+
+-- the place of a stop, where the list begins with the starts, or of a follower, where it begins with the stands
+unfoldable pub place : List ℕ → List ℕ → ℕ → ℕ
+place first calls p = getD (first ++ calls) p 0
+
+module _ (d : ℕ → ℕ → ℕ) (starts calls : List ℕ) where
+  -- d from stop p to follower b
+  unfoldable pub legCost : List ℕ → ℕ → ℕ → ℕ
+  legCost stands p b = d (place starts calls p) (place stands calls b)
+
+  -- the same where the end is free: a last leg costs nothing
+  unfoldable pub freeCost : ℕ → ℕ → ℕ
+  freeCost p b = cond (ltb b (length starts)) 0 (d (place starts calls p) (place starts calls b))

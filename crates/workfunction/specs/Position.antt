@@ -1,0 +1,27 @@
+-- Positions of the cranes, and the distance of two.
+use Prim.Native.Nat.{ℕ, _+_, _<_}
+use mathlib.Core.Path.{_≡_}
+use mathlib.Core.List.{List, [], _∷_, map, List·Memᴰ}
+use lib.ListN.{length, replicate}
+use Rattle.base.specs.Lists.{upTo}
+use Rattle.workfunction.specs.Lists.{least, orders, choices}
+
+-- "A position is a list of k places, k being the number of cranes": places of a table of n.
+pub record Position (n k : ℕ) (C : List ℕ) : Type 0 where
+  pub cranes : length C ≡ k
+  pub placed : {p : ℕ} → List·Memᴰ p C → p < n
+
+-- every position
+unfoldable pub positions : ℕ → ℕ → List (List ℕ)
+positions n k = choices (replicate k (upTo n (λ p. p)))
+
+module _ (d : ℕ → ℕ → ℕ) where
+  -- the sum of one pairing: each entry of A with the entry of B in the same slot
+  unfoldable pub pairing : List ℕ → List ℕ → ℕ
+  pairing [] B = 0
+  pairing (a ∷ A) [] = 0
+  pairing (a ∷ A) (b ∷ B) = d a b + pairing A B
+
+  -- "The distance of two positions is the least sum over all pairings": B in every order beside A.
+  unfoldable pub distance : List ℕ → List ℕ → ℕ
+  distance A B = least (map (pairing A) (orders B))
