@@ -1,26 +1,133 @@
--- trial
-use Prim.Native.Nat.{ℕ, _+_}
-use mathlib.Core.Bool.{true}
+-- The definitions compute. Days of document 01 with what it says of them, plans and weights with what their rules say.
+-- Assumes nothing.
+use Prim.Native.Nat.{ℕ}
+use mathlib.Core.Bool.{Bool, true, false}
 use mathlib.Core.List.{List, [], _∷_, map, flatMap, headD}
 use mathlib.Core.Path.{_≡_, refl}
-use lib.ListN.{getD}
+use lib.IntN.{ℤ, pos, negℤ}
+use lib.ListN.{length, getD}
 use Rattle.base.specs.Lists.{upTo}
-use Rattle.workfunction.specs.Lists.{least, inserted, orders, keep, leastBy, choices}
+use Rattle.base.specs.Tests.{allBelow}
+use Rattle.workfunction.specs.Lists.{least, inserted, orders, sumBelow, keep, leastBy, choices}
 use Rattle.workfunction.specs.Position.{positions, pairing, distance}
 use Rattle.workfunction.specs.Movement.{contains, movements, cost, work, floor}
-use Rattle.workfunction.specs.Choice.{drive, moveSum, preferred, choice}
+use Rattle.workfunction.specs.Choice.{preferred, drive, moveSum, choice}
+use Rattle.workfunction.specs.Serving.{Served, serve}
+use Rattle.workfunction.specs.Plan.{mayFollow, follows, followersRule, onceRule, planRule, vouchAt, vouchRule, planCost, place, legCost, freeCost}
 
-tableA : List (List ℕ)
-tableA = (0 ∷ 10 ∷ 20 ∷ []) ∷ (10 ∷ 0 ∷ 15 ∷ []) ∷ (20 ∷ 15 ∷ 0 ∷ []) ∷ []
+-- three places, by the legs (0,1), (0,2), (1,2)
+abbrev three : ℕ → ℕ → ℕ → List (List ℕ)
+three a b c = (0 ∷ a ∷ b ∷ []) ∷ (a ∷ 0 ∷ c ∷ []) ∷ (b ∷ c ∷ 0 ∷ []) ∷ []
 
-dA : ℕ → ℕ → ℕ
-unfolding tableA
-dA u v = getD (getD tableA u []) v 0
+abbrev metres : List (List ℕ) → ℕ → ℕ → ℕ
+metres rows u v = getD (getD rows u []) v 0
 
-floor-A : floor dA 3 (0 ∷ 2 ∷ []) (1 ∷ 0 ∷ 1 ∷ []) ≡ 15
-unfolding tableA dA upTo least inserted orders keep leastBy choices positions pairing distance contains movements cost work floor flatMap headD drive moveSum preferred choice
-floor-A = refl
+-- ---- days, served from a fresh book
 
-choice-A : choice dA 3 (0 ∷ 2 ∷ []) (1 ∷ 0 ∷ []) (0 ∷ 2 ∷ []) 1 ≡ 1
-unfolding tableA dA upTo least inserted orders keep leastBy choices positions pairing distance contains movements cost work floor flatMap headD drive moveSum preferred choice
-choice-A = refl
+abbrev served : ℕ → ℕ → ℕ → Served
+served s m w = record { crane = s; metres = m; least = w }
+
+-- the road table's rows, the starts and the calls; what is returned for each call, and the floor after the last
+pub data Day : Type 0 where
+  day : List (List ℕ) → List ℕ → List ℕ → List Served → ℕ → Day
+
+unfoldable pub days : List Day
+days =
+    -- case A
+    day (three 10 20 15) (0 ∷ 2 ∷ []) (1 ∷ 0 ∷ 1 ∷ []) (served 0 10 10 ∷ served 0 10 20 ∷ served 1 15 15 ∷ []) 15 ∷
+    -- "one place, one crane, one call at 0: crane 0, metres 0, least 0"
+    day ((0 ∷ []) ∷ []) (0 ∷ []) (0 ∷ []) (served 0 0 0 ∷ []) 0 ∷
+    -- "legs 10, 20, 10, cranes at 0 and 2, call 1: both give 20; crane 0"
+    day (three 10 20 10) (0 ∷ 2 ∷ []) (1 ∷ []) (served 0 10 10 ∷ []) 10 ∷
+    -- "two cranes at 0, call at 1 by a leg of 7: crane 0, metres 7"
+    day ((0 ∷ 7 ∷ []) ∷ (7 ∷ 0 ∷ []) ∷ []) (0 ∷ 0 ∷ []) (1 ∷ []) (served 0 7 7 ∷ []) 7 ∷
+    -- a day without calls
+    day (three 10 20 15) (0 ∷ 2 ∷ []) [] [] 0 ∷
+    -- at the last call both cranes give 4, and crane 1 drives less
+    day (three 1 2 2) (2 ∷ 0 ∷ []) (1 ∷ 0 ∷ 1 ∷ []) (served 1 1 1 ∷ served 1 1 2 ∷ served 1 1 3 ∷ []) 2 ∷
+    []
+
+unfoldable pub found : Day → List Served × ℕ
+found (day rows starts calls _ _) =
+    (serve (metres rows) (length rows) starts [] starts calls, floor (metres rows) (length rows) starts calls)
+
+unfoldable pub told : Day → List Served × ℕ
+told (day _ _ _ lines lowest) = (lines, lowest)
+
+pub days-agree : map found days ≡ map told days
+unfolding days found told upTo least inserted orders keep leastBy choices positions pairing distance contains movements cost work floor flatMap headD drive moveSum preferred choice serve
+days-agree = refl
+
+-- "With no calls [..] w(stands) is the distance from starts to stands": from 0 and 2 to 1 and 0 one crane moves, by 15
+pub no-calls : work (metres (three 10 20 15)) 3 (0 ∷ 2 ∷ []) [] (1 ∷ 0 ∷ []) ≡ 15
+unfolding upTo least inserted orders keep choices positions pairing distance contains movements cost work flatMap
+no-calls = refl
+
+-- ---- plans
+
+abbrev at : List ℕ → ℕ → ℕ
+at l i = getD l i 0
+
+-- the number of cranes and the followers of all stops; whether it is a plan
+pub data Followers : Type 0 where
+  plan : ℕ → List ℕ → Bool → Followers
+
+unfoldable pub plans : List Followers
+plans =
+    -- case A after its last call
+    plan 2 (3 ∷ 2 ∷ 4 ∷ 0 ∷ 1 ∷ []) true ∷
+    -- a fresh book
+    plan 2 (0 ∷ 1 ∷ []) true ∷
+    -- a stand that follows two stops
+    plan 2 (0 ∷ 0 ∷ []) false ∷
+    -- a follower out of range
+    plan 2 (0 ∷ 2 ∷ []) false ∷
+    -- the second call followed by the first
+    plan 1 (2 ∷ 0 ∷ 1 ∷ []) false ∷
+    -- a call that follows itself
+    plan 1 (0 ∷ 1 ∷ []) false ∷
+    []
+
+unfoldable pub planned : Followers → Bool
+planned (plan k f _) = planRule k (length f) (at f)
+
+unfoldable pub ruled : Followers → Bool
+ruled (plan _ _ rule) = rule
+
+pub plans-agree : map planned plans ≡ map ruled plans
+unfolding plans planned ruled planRule followersRule onceRule mayFollow follows sumBelow allBelow
+plans-agree = refl
+
+-- ---- weights, on case A's table
+
+-- the costs of legs, the number of cranes, the followers and the weights; the plan's cost, and whether the weights vouch
+pub data Weights : Type 0 where
+  weights : (ℕ → ℕ → ℕ) → ℕ → List ℕ → List ℤ → ℕ → Bool → Weights
+
+abbrev minus : ℕ → ℤ
+minus n = negℤ (pos n)
+
+abbrev legs : List ℕ → List ℕ → ℕ → ℕ → ℕ
+legs calls stands = legCost (metres (three 10 20 15)) (0 ∷ 2 ∷ []) calls stands
+
+unfoldable pub witnesses : List Weights
+witnesses =
+    -- case A after its second call and after its last
+    weights (legs (1 ∷ 0 ∷ []) (0 ∷ 2 ∷ [])) 2 (2 ∷ 1 ∷ 3 ∷ 0 ∷ []) (minus 10 ∷ minus 5 ∷ pos 0 ∷ minus 10 ∷ []) 20 true ∷
+    weights (legs (1 ∷ 0 ∷ 1 ∷ []) (0 ∷ 1 ∷ [])) 2 (3 ∷ 2 ∷ 4 ∷ 0 ∷ 1 ∷ []) (pos 0 ∷ pos 0 ∷ pos 0 ∷ pos 0 ∷ pos 0 ∷ []) 15 true ∷
+    -- its floor
+    weights (freeCost (metres (three 10 20 15)) (0 ∷ 2 ∷ []) (1 ∷ 0 ∷ 1 ∷ [])) 2 (3 ∷ 2 ∷ 4 ∷ 0 ∷ 1 ∷ [])
+      (minus 15 ∷ minus 15 ∷ pos 0 ∷ pos 0 ∷ minus 5 ∷ []) 15 true ∷
+    -- no calls, and cranes that have changed places: not least, and only the stands can tell
+    weights (legs [] (2 ∷ 0 ∷ [])) 2 (0 ∷ 1 ∷ []) (pos 0 ∷ pos 0 ∷ []) 40 false ∷
+    []
+
+unfoldable pub vouched : Weights → ℕ × Bool
+vouched (weights c k f y _ _) = (planCost (length f) c (at f), vouchRule k (length f) (at f) c (λ b. getD y b (pos 0)))
+
+unfoldable pub weighed : Weights → ℕ × Bool
+weighed (weights _ _ _ _ cost rule) = (cost, rule)
+
+pub witnesses-agree : map vouched witnesses ≡ map weighed witnesses
+unfolding witnesses vouched weighed planCost vouchRule vouchAt mayFollow legCost freeCost place sumBelow allBelow
+witnesses-agree = refl

@@ -1,22 +1,22 @@
--- The choice of a crane: the least sum, then the least drive, then the lowest number; and laziness: no rearrangement with a
--- crane at the call has a lower sum than the single move chosen. Assumes nothing.
-use Prim.Native.Nat.{ℕ, zero, suc, _+_, _<_, _≤_, zero-le}
+-- The choice of a crane: the least sum, then the least drive, then the lowest number; and laziness: no position has a lower
+-- sum than the single move chosen. Assumes nothing.
+use Prim.Native.Nat.{ℕ, zero, suc, _+_, _<_, _≤_}
 use mathlib.Core.Bool.{Bool, true, false, cond}
-use mathlib.Core.List.{List, [], _∷_, _++_, map, headD, List·Memᴰ, List·Memᴰ·head, List·Memᴰ·tail, List·Memᴰ·not-nil, List·Memᴰ·cases-cons, List·Memᴰ·append-cases, List·Memᴰ·eq-of-singleton, Permᴰ·refl, Permᴰ·symm}
-use mathlib.Core.Logic.{⊎-elim}
-use mathlib.Core.Path.{_≡_, refl, sym, subst, ap, _∙_}
-use lib.ListN.{length, getD, set}
+use mathlib.Core.List.{List, [], _∷_, headD, List·Memᴰ, List·Memᴰ·head, List·Memᴰ·tail, List·Memᴰ·not-nil}
+use mathlib.Core.Path.{_≡_, refl, sym, _∙_}
+use lib.ListN.{length, set}
 use native.Mathlib.Nat.{zero-add, le-antisymm, le-refl, le-trans}
 use native.Mathlib.Omega.{arith}
 use Rattle.base.specs.Lists.{upTo}
 use Rattle.base.specs.Metric.{Metric}
 use Rattle.workfunction.specs.Lists.{keep, leastBy}
-use Rattle.workfunction.specs.Position.{Position, pairing, distance}
-use Rattle.workfunction.specs.Movement.{Instance, work}
-use Rattle.workfunction.specs.Choice.{moved, drive, moveSum, preferred, choice, rearrangementSum}
+use Rattle.workfunction.specs.Position.{Position}
+use Rattle.workfunction.specs.Movement.{Instance, Serves}
+use Rattle.workfunction.specs.Choice.{preferred, moved, drive, moveSum, choice, rearrangementSum}
 use Rattle.workfunction.proofs.Lists.{in-leastBy, leastBy-in, leastBy-some, upTo-in, in-upTo}
-use Rattle.workfunction.proofs.Position.{pairing-set, distance-attained, distance-below, distance-flip, distance-moved, position-set, together}
-use Rattle.workfunction.proofs.Movement.{work-on}
+use Rattle.workfunction.proofs.Movement.{work-on, instance-then, work-last}
+use Rattle.workfunction.proofs.Position.{pairing-set, distance-attained, distance-below, distance-flip, distance-triangle}
+use Rattle.workfunction.proofs.Position.{distance-moved, position-set, together}
 use Rattle.workfunction.proofs.Sums.{slot-of, set-in, in-order, length-order}
 
 -- a list in ascending order, from b on
@@ -96,54 +96,58 @@ module _ (f g : ℕ → ℕ) (k : ℕ) (some : 0 < k) where
       let q : g s ≡ g (preferred f g k) = le-antisymm (drive _ p (sym e)) (preferred-drive s h e) in
       le-antisymm (number _ p (sym e) (sym q)) (preferred-number s h e q)
 
-pub instance-then : {n : ℕ} {starts calls : List ℕ} {r : ℕ} → Instance n starts calls → r < n → Instance n starts (calls ++ (r ∷ []))
-instance-then {n} {calls = calls} day h =
-    record {
-      crane = day .crane;
-      started = day .started;
-      called = λ m. ⊎-elim (λ k. day .called k) (λ k. subst (λ (q : ℕ). q < n) (sym (List·Memᴰ·eq-of-singleton k)) h) (List·Memᴰ·append-cases calls m);
-    }
-
 module _ {n : ℕ} {d : ℕ → ℕ → ℕ} (laws : Metric n d) {starts calls stands : List ℕ} (day : Instance n starts calls)
-         (standing : Position n (length starts) stands) {r : ℕ} (place : r < n) where
+         (standing : Position n (length starts) stands) {r : ℕ} (asked : r < n) where
   -- the crane that the least pairing of the stands with C takes to the call does as well alone
-  pub lazy : {C : List ℕ} → Position n (length starts) C → List·Memᴰ r C
+  pub lazy : {C : List ℕ} → Serves n (length starts) r C
       → (s : ℕ) × (s < length stands) × (moveSum d n starts calls stands r s ≤ rearrangementSum d n starts calls stands r C)
   unfolding moveSum rearrangementSum drive
-  lazy {C} c m =
+  lazy {C} (c, m) =
       let best = distance-attained d stands C in
       let slot = slot-of (in-order (best .1) m) in
       let s = slot .0 in
       let same : length stands ≡ length (best .0) = together standing c ∙ length-order (best .1) in
       let lt : s < length stands = rw same (slot .1) in
-      let one : Position n (length starts) (set stands s r) = position-set stands s r place standing in
-      let alone = rw (slot .2, best .2, laws .self r place) at (pairing-set d stands (best .0) s r lt same) in
+      let one : Position n (length starts) (set stands s r) = position-set stands s r asked standing in
+      let alone = rw (slot .2, best .2, laws .self r asked) at (pairing-set d stands (best .0) s r lt same) in
       let near = distance-below d (set stands s r) C (best .1) in
-      let on = work-on d (instance-then day place) laws c one in
+      let on = work-on d (instance-then day asked) laws c one in
       let flip = distance-flip laws c one in
       (s, lt, omega arith)
 
-  stands-crane : 0 < length stands
-  stands-crane = rw (standing .cranes) (day .crane)
+  crane : 0 < length stands
+  crane = rw (standing .cranes) (day .crane)
 
   pub choice-below : choice d n starts calls stands r < length stands
   unfolding choice
-  choice-below = preferred-below _ _ (length stands) stands-crane
+  choice-below = preferred-below _ _ (length stands) crane
 
   -- no rearrangement has a lower sum than the single move chosen
-  pub choice-least : {C : List ℕ} → Position n (length starts) C → List·Memᴰ r C
+  pub choice-least : {C : List ℕ} → Serves n (length starts) r C
       → moveSum d n starts calls stands r (choice d n starts calls stands r) ≤ rearrangementSum d n starts calls stands r C
   unfolding choice
-  choice-least c m =
-      let one = lazy c m in
-      le-trans (preferred-sum (moveSum d n starts calls stands r) (drive d stands r) (length stands) stands-crane (one .0) (one .1)) (one .2)
+  choice-least h =
+      let one = lazy h in
+      le-trans (preferred-sum (moveSum d n starts calls stands r) (drive d stands r) (length stands) crane (one .0) (one .1)) (one .2)
 
-  -- and it is one itself, with the same sum
-  pub choice-rearranges : rearrangementSum d n starts calls stands r (moved stands r (choice d n starts calls stands r))
+  -- nor has any other position, which makes the choice that of equation (1) of source document 000, over all positions
+  pub choice-minimal : {C : List ℕ} → Position n (length starts) C
+      → moveSum d n starts calls stands r (choice d n starts calls stands r) ≤ rearrangementSum d n starts calls stands r C
+  unfolding rearrangementSum
+  choice-minimal {C} c =
+      let last = work-last calls r laws (instance-then day asked) C in
+      let x = last .1 .0 in
+      let best = choice-least (last .1) in
+      let way = distance-triangle laws standing c x in
+      let flip = distance-flip laws c x in
+      let sum = last .2 in
+      omega arith
+
+  -- and the position that it leads to attains it
+  pub choice-attained : rearrangementSum d n starts calls stands r (moved stands r (choice d n starts calls stands r))
       ≡ moveSum d n starts calls stands r (choice d n starts calls stands r)
   unfolding moveSum rearrangementSum drive
-  choice-rearranges =
+  choice-attained =
       let s = choice d n starts calls stands r in
-      let lt : s < length stands = choice-below in
-      let near = distance-moved laws stands s r standing lt place in
-      le-antisymm (omega arith) (choice-least (position-set stands s r place standing) (set-in stands s r lt))
+      let near = distance-moved laws stands s r standing choice-below asked in
+      le-antisymm (omega arith) (choice-least (position-set stands s r asked standing, set-in stands s r choice-below))

@@ -1,3 +1,4 @@
+pub mod Cases
 pub mod Lists
 pub mod Sums
 pub mod Position
@@ -8,4 +9,3 @@ pub mod Stops
 pub mod Lower
 pub mod Upper
 pub mod Witness
-pub mod Cases

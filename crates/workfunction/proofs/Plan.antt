@@ -14,7 +14,7 @@ use Rattle.base.specs.Tests.{allBelow}
 use Rattle.base.proofs.Tests.{below-at}
 use Rattle.base.proofs.Signed.{plus, minus, plus-difference, le-parts}
 use Rattle.workfunction.specs.Lists.{sumBelow}
-use Rattle.workfunction.specs.Plan.{mayFollow, follows, followersRule, onceRule, planRule, planCost, vouchRule}
+use Rattle.workfunction.specs.Plan.{mayFollow, follows, followersRule, onceRule, planRule, planCost, vouchAt, vouchRule}
 use Rattle.workfunction.proofs.Sums.{sum-same, sum-le, sum-plus, sum-at, sum-swap, sum-one, sum-times}
 
 pub may-follow : (k p b : ℕ) → (b < k) ⊎ (p < b) → mayFollow k p b ≡ true
@@ -63,7 +63,7 @@ unfoldable pub raised : ℕ → (ℕ → ℤ) → ℕ → ℕ
 raised N y b = plus (y b) + (sumBelow N (λ b. minus (y b)) - minus (y b))
 
 pub vouch-facts : {k N : ℕ} {f : ℕ → ℕ} → Plan k N f → (c : ℕ → ℕ → ℕ) (y : ℕ → ℤ) → vouchRule k N f c y ≡ true → Vouched k N f c (raised N y)
-unfolding vouchRule raised plus minus
+unfolding vouchRule vouchAt raised plus minus
 vouch-facts {k} {N} {f} plan c y h = record { vouch = each }
   where
     each : (p b : ℕ) → p < N → b < N → (b < k) ⊎ (p < b) → raised N y b + c p (f p) ≤ raised N y (f p) + c p b

@@ -1,18 +1,21 @@
 -- The distance of two positions: attained by a pairing, at most the sum of every pairing, the same for every order of
 -- either, symmetric, and with the triangle rule. Assumes nothing.
 use Prim.Native.Nat.{ℕ, zero, suc, _+_, _<_, _≤_, zero-le}
-use mathlib.Core.List.{List, [], _∷_, map, List·Memᴰ, List·Memᴰ·head, List·Memᴰ·tail, List·Memᴰ·not-nil, List·Memᴰ·cases-cons, List·Permᴰ, List·Permᴰ·nil, List·Permᴰ·cons, List·Permᴰ·swap, List·Permᴰ·trans, Permᴰ·refl, Permᴰ·symm, Forall₂, Forall₂·nil, Forall₂·cons}
+use mathlib.Core.List.{List, [], _∷_, map, Forall₂, Forall₂·nil, Forall₂·cons}
+use mathlib.Core.List.{List·Memᴰ, List·Memᴰ·head, List·Memᴰ·tail, List·Memᴰ·not-nil, List·Memᴰ·cases-cons}
+use mathlib.Core.List.{List·Permᴰ, List·Permᴰ·nil, List·Permᴰ·cons, List·Permᴰ·swap, List·Permᴰ·trans, Permᴰ·refl, Permᴰ·symm}
 use mathlib.Core.Logic.{⊎-elim, ∥∥₁-elim}
 use mathlib.Core.Path.{_≡_, refl, sym, subst, ap, _∙_}
 use lib.ListN.{length, getD, set, length-set, replicate}
 use native.Mathlib.Bridge.{le-prop}
-use native.Mathlib.Nat.{zero-add, not-suc-le-zero, le-of-suc-le-suc, le-antisymm, le-refl, le-trans, suc-inj, suc-ne-zero}
+use native.Mathlib.Nat.{zero-add, not-suc-le-zero, le-of-suc-le-suc, le-antisymm, le-trans, suc-inj, suc-ne-zero}
 use native.Mathlib.Omega.{arith}
 use Rattle.base.specs.Lists.{upTo}
 use Rattle.base.specs.Metric.{Metric}
-use Rattle.workfunction.specs.Lists.{least, orders, choices}
+use Rattle.workfunction.specs.Lists.{orders}
 use Rattle.workfunction.specs.Position.{Position, positions, pairing, distance}
-use Rattle.workfunction.proofs.Lists.{least-attained, least-below, in-orders, orders-self, orders-in, choices-in, in-choices, upTo-in, in-upTo}
+use Rattle.workfunction.proofs.Lists.{least-attained, least-below, in-orders, orders-self, orders-in}
+use Rattle.workfunction.proofs.Lists.{choices-in, in-choices, upTo-in, in-upTo}
 use Rattle.workfunction.proofs.Sums.{length-order, in-order, in-set, entry-in}
 
 -- laws of one pairing
@@ -32,23 +35,28 @@ module _ (e : ℕ → ℕ → ℕ) where
   pairing-flip (a ∷ A) [] = refl
   pairing-flip (a ∷ A) (b ∷ B) = rw (pairing-flip A B)
 
-  pub pairing-same : (g : ℕ → ℕ → ℕ) (A B : List ℕ) → ((a b : ℕ) → List·Memᴰ a A → List·Memᴰ b B → e a b ≡ g a b) → pairing e A B ≡ pairing g A B
+  pub pairing-same : (g : ℕ → ℕ → ℕ) (A B : List ℕ) → ((a b : ℕ) → List·Memᴰ a A → List·Memᴰ b B → e a b ≡ g a b)
+      → pairing e A B ≡ pairing g A B
   unfolding pairing
   pairing-same g [] B same = refl
   pairing-same g (a ∷ A) [] same = refl
   pairing-same g (a ∷ A) (b ∷ B) same =
-      rw (same a b (List·Memᴰ·head refl) (List·Memᴰ·head refl), pairing-same g A B (λ a b m k. same a b (List·Memᴰ·tail m) (List·Memᴰ·tail k)))
+      let rest = pairing-same g A B (λ a b m k. same a b (List·Memᴰ·tail m) (List·Memᴰ·tail k)) in
+      rw (same a b (List·Memᴰ·head refl) (List·Memᴰ·head refl), rest)
 
   -- the triangle rule, slot by slot
   pub pairing-triangle : (d : ℕ → ℕ → ℕ) (A B C : List ℕ) → length A ≡ length B → length B ≡ length C
-      → ((a b c : ℕ) → List·Memᴰ a A → List·Memᴰ b B → List·Memᴰ c C → e a c ≤ e a b + d b c) → pairing e A C ≤ pairing e A B + pairing d B C
+      → ((a b c : ℕ) → List·Memᴰ a A → List·Memᴰ b B → List·Memᴰ c C → e a c ≤ e a b + d b c)
+      → pairing e A C ≤ pairing e A B + pairing d B C
   unfolding pairing
   pairing-triangle d [] B C p q way = zero-le
   pairing-triangle d (a ∷ A) [] C p q way = omega arith
   pairing-triangle d (a ∷ A) (b ∷ B) [] p q way = zero-le
   pairing-triangle d (a ∷ A) (b ∷ B) (c ∷ C) p q way =
       let first = way a b c (List·Memᴰ·head refl) (List·Memᴰ·head refl) (List·Memᴰ·head refl) in
-      let rest = pairing-triangle d A B C (suc-inj p) (suc-inj q) (λ a b c m k l. way a b c (List·Memᴰ·tail m) (List·Memᴰ·tail k) (List·Memᴰ·tail l)) in
+      let rest = pairing-triangle d A B C (suc-inj p) (suc-inj q)
+      (λ a b c m k l. way a b c (List·Memᴰ·tail m) (List·Memᴰ·tail k) (List·Memᴰ·tail l))
+      in
       omega arith
 
 -- stops beside places
@@ -87,6 +95,13 @@ module _ (d : ℕ → ℕ → ℕ) where
   unfolding distance
   distance-below A B p = ∥∥₁-elim (orders-in B ∣ p ∣₁) le-prop (λ m. least-below (pairing d A) (orders B) m)
 
+  -- and by an order of the first list, the second left as it is
+  pub attained-left : (A B : List ℕ) → length A ≡ length B → (X : List ℕ) × List·Permᴰ A X × (pairing d X B ≡ distance d A B)
+  attained-left A B h =
+      let best = distance-attained A B in
+      let more = carried A (Permᴰ·symm (best .1)) (h ∙ length-order (best .1)) in
+      (more .0, more .1, more .2 d ∙ best .2)
+
   -- the same for every order of either list
   below-right : (A B X : List ℕ) → List·Permᴰ B X → distance d A X ≤ distance d A B
   below-right A B X p =
@@ -114,7 +129,8 @@ module _ (d : ℕ → ℕ → ℕ) where
       let best = distance-attained P Q in
       let same : length P ≡ length (best .0) = g ∙ length-order (best .1) in
       let more = carried T (Permᴰ·symm (best .1)) (h ∙ same) in
-      (more .0, more .1, rw (more .2 e, ← best .2) (pairing-triangle e d T P (best .0) h same (λ t p q m k l. way t p q m k (in-order (Permᴰ·symm (best .1)) l))))
+      let over = pairing-triangle e d T P (best .0) h same (λ t p q m k l. way t p q m k (in-order (Permᴰ·symm (best .1)) l)) in
+      (more .0, more .1, rw (more .2 e, ← best .2) over)
 
 -- positions keep being positions
 pub position-order : {n k : ℕ} {C X : List ℕ} → List·Permᴰ C X → Position n k C → Position n k X
@@ -128,6 +144,7 @@ pub together : {n k : ℕ} {A B : List ℕ} → Position n k A → Position n k 
 together a b = a .cranes ∙ sym (b .cranes)
 
 module _ {n : ℕ} {d : ℕ → ℕ → ℕ} (laws : Metric n d) where
+  -- cranes that stay where they are
   pub unmoved : (A : List ℕ) → ((p : ℕ) → List·Memᴰ p A → p < n) → pairing d A A ≤ 0
   unfolding pairing
   unmoved [] on = zero-le
@@ -138,27 +155,29 @@ module _ {n : ℕ} {d : ℕ → ℕ → ℕ} (laws : Metric n d) where
 
   below-flip : {k : ℕ} (A B : List ℕ) → Position n k A → Position n k B → distance d B A ≤ distance d A B
   below-flip A B a b =
-      let best = distance-attained d A B in
-      let more = carried A (Permᴰ·symm (best .1)) (together a b ∙ length-order (best .1)) in
-      rw (← best .2, ← more .2 d, pairing-flip d (more .0) B,
-        pairing-same (λ q p. d p q) d B (more .0) (λ q p m l. laws .both-ways p q (position-order (more .1) a .placed l) (b .placed m)))
-      (distance-below d B A (more .1))
+      let best = attained-left d A B (together a b) in
+      let x : Position n _ (best .0) = position-order (best .1) a in
+      let back = pairing-same (λ q p. d p q) d B (best .0) (λ q p m l. laws .both-ways p q (x .placed l) (b .placed m)) in
+      rw (← best .2, pairing-flip d (best .0) B, back) (distance-below d B A (best .1))
 
   pub distance-flip : {k : ℕ} {A B : List ℕ} → Position n k A → Position n k B → distance d A B ≡ distance d B A
   distance-flip {A = A} {B} a b = le-antisymm (below-flip B A b a) (below-flip A B a b)
 
-  pub distance-triangle : {k : ℕ} {A B C : List ℕ} → Position n k A → Position n k B → Position n k C → distance d A C ≤ distance d A B + distance d B C
+  pub distance-triangle : {k : ℕ} {A B C : List ℕ} → Position n k A → Position n k B → Position n k C
+      → distance d A C ≤ distance d A B + distance d B C
   distance-triangle {A = A} {B} {C} a b c =
-      let best = distance-attained d A B in
-      let near = carried A (Permᴰ·symm (best .1)) (together a b ∙ length-order (best .1)) in
+      let near = attained-left d A B (together a b) in
       let u : Position n _ (near .0) = position-order (near .1) a in
-      let far = stepped d d (near .0) B C (together u b) (together b c) (λ p q r m k l. laws .triangle p q r (u .placed m) (b .placed k) (c .placed l)) in
+      let far = stepped d d (near .0) B C (together u b) (together b c)
+      (λ p q r m k l. laws .triangle p q r (u .placed m) (b .placed k) (c .placed l))
+      in
       let over : List·Permᴰ A (far .0) = List·Permᴰ·trans (near .1) (far .1) in
-      rw (← best .2, ← near .2 d, distance-left d A (far .0) C (together a c) over)
+      rw (← near .2, distance-left d A (far .0) C (together a c) over)
       (le-trans (distance-below d (far .0) C (Permᴰ·refl C)) (far .2))
 
   -- one crane moved, the others left where they are
-  pub distance-moved : {k : ℕ} (C : List ℕ) (s r : ℕ) → Position n k C → s < length C → r < n → distance d C (set C s r) ≤ d (getD C s 0) r
+  pub distance-moved : {k : ℕ} (C : List ℕ) (s r : ℕ) → Position n k C → s < length C → r < n
+      → distance d C (set C s r) ≤ d (getD C s 0) r
   distance-moved C s r c lt place =
       let stand : getD C s 0 < n = c .placed (entry-in C s lt) in
       let sum = pairing-set d C C s r lt refl in
@@ -174,11 +193,13 @@ pub positions-in : (n : ℕ) {k : ℕ} {C : List ℕ} → Position n k C → Lis
 unfolding positions
 positions-in n {k} {C} c = choices-in (rows k C (c .cranes) (λ p m. c .placed m))
   where
-    rows : (k : ℕ) (C : List ℕ) → length C ≡ k → ((p : ℕ) → List·Memᴰ p C → p < n) → Forall₂ (λ p (l : List ℕ). List·Memᴰ p l) C (replicate k (upTo n (λ p. p)))
+    rows : (k : ℕ) (C : List ℕ) → length C ≡ k → ((p : ℕ) → List·Memᴰ p C → p < n)
+        → Forall₂ (λ p (l : List ℕ). List·Memᴰ p l) C (replicate k (upTo n (λ p. p)))
     rows zero [] h on = Forall₂·nil
     rows (suc k) [] h on = absurd (suc-ne-zero k (sym h))
     rows zero (p ∷ C) h on = absurd (suc-ne-zero (length C) h)
-    rows (suc k) (p ∷ C) h on = Forall₂·cons (upTo-in n (λ p. p) p (on p (List·Memᴰ·head refl))) (rows k C (suc-inj h) (λ q m. on q (List·Memᴰ·tail m)))
+    rows (suc k) (p ∷ C) h on =
+        Forall₂·cons (upTo-in n (λ p. p) p (on p (List·Memᴰ·head refl))) (rows k C (suc-inj h) (λ q m. on q (List·Memᴰ·tail m)))
 
 pub in-positions : (n k : ℕ) {C : List ℕ} → List·Memᴰ C (positions n k) → Position n k C
 unfolding positions
@@ -189,4 +210,7 @@ in-positions n k m = rows k (in-choices (replicate k (upTo n (λ p. p))) m)
     rows (suc k) (Forall₂·cons h more) =
         let rest = rows k more in
         let at = in-upTo n (λ p. p) h in
-        record { cranes = ap suc (rest .cranes); placed = λ m. ⊎-elim (λ e. subst (λ (q : ℕ). q < n) (sym (e ∙ at .2)) (at .1)) (λ k. rest .placed k) (List·Memᴰ·cases-cons m) }
+        record {
+          cranes = ap suc (rest .cranes);
+          placed = λ m. ⊎-elim (λ e. subst (λ (q : ℕ). q < n) (sym (e ∙ at .2)) (at .1)) (λ k. rest .placed k) (List·Memᴰ·cases-cons m);
+        }

@@ -1,10 +1,11 @@
--- Sums over a list of stops and over all numbers below a bound, and the entries of a list in another order.
+-- Sums over a list and over the numbers below a bound, and the entries of a list: by slot, replaced, in another order.
 -- Assumes nothing.
 use Prim.Native.Nat.{ℕ, zero, suc, _+_, _*_, _<_, _≤_, zero-le, suc-le-suc}
 use mathlib.Core.Bool.{Bool, true, false, cond}
-use mathlib.Core.List.{List, [], _∷_, _++_, List·Memᴰ, List·Memᴰ·head, List·Memᴰ·tail, List·Memᴰ·not-nil, List·Memᴰ·cases-cons, List·Permᴰ, List·Permᴰ·nil, List·Permᴰ·cons, List·Permᴰ·swap, List·Permᴰ·trans}
-use mathlib.Core.Logic.{_⊎_, inl, inr, ⊎-elim, ⊎-map}
-use mathlib.Core.Path.{_≡_, refl, sym, subst, ap, _∙_}
+use mathlib.Core.List.{List, [], _∷_, List·Memᴰ, List·Memᴰ·head, List·Memᴰ·tail, List·Memᴰ·cases-cons}
+use mathlib.Core.List.{List·Permᴰ, List·Permᴰ·nil, List·Permᴰ·cons, List·Permᴰ·swap, List·Permᴰ·trans}
+use mathlib.Core.Logic.{_⊎_, inr, ⊎-elim, ⊎-map}
+use mathlib.Core.Path.{_≡_, refl, sym, ap, _∙_}
 use borrow.Author.Tests.{eq-eqb, ne-eqb}
 use lib.Dec.{eqb}
 use lib.ListN.{length, getD, set}
@@ -12,6 +13,8 @@ use native.Mathlib.Nat.{zero-add, add-zero, zero-mul, one-mul, add-mul, le-refl,
 use native.Mathlib.Omega.{arith}
 use Rattle.base.specs.Lists.{upTo}
 use Rattle.workfunction.specs.Lists.{sumBelow}
+
+-- ---- lists
 
 -- the sum of f over a list
 unfoldable pub total : (ℕ → ℕ) → List ℕ → ℕ
@@ -21,11 +24,10 @@ total f (t ∷ T) = f t + total f T
 pub total-order : (f : ℕ → ℕ) {T U : List ℕ} → List·Permᴰ T U → total f T ≡ total f U
 unfolding total
 total-order f List·Permᴰ·nil = refl
-total-order f (List·Permᴰ·cons {l₁ = T} {l₂ = U} e p) = rw (e, total-order f p)
-total-order f (List·Permᴰ·swap {a = a} {b = b} {l = l} e g) = rw (← e, ← g) (omega arith)
+total-order f (List·Permᴰ·cons e p) = rw (e, total-order f p)
+total-order f (List·Permᴰ·swap e g) = rw (← e, ← g) (omega arith)
 total-order f (List·Permᴰ·trans p q) = total-order f p ∙ total-order f q
 
--- one entry replaced
 pub total-set : (f : ℕ → ℕ) (T : List ℕ) (j i : ℕ) → j < length T → total f (set T j i) + f (getD T j 0) ≡ total f T + f i
 unfolding total
 total-set f [] j i h = absurd (not-suc-le-zero h)
@@ -68,7 +70,8 @@ in-set (t ∷ T) zero i m = ⊎-map (λ e. e) List·Memᴰ·tail (List·Memᴰ·
 in-set (t ∷ T) (suc j) i (List·Memᴰ·head e) = inr (List·Memᴰ·head e)
 in-set (t ∷ T) (suc j) i (List·Memᴰ·tail m) = ⊎-map (λ e. e) List·Memᴰ·tail (in-set T j i m)
 
--- sums below a bound
+-- ---- numbers below a bound
+
 pub sum-same : (n : ℕ) (f g : ℕ → ℕ) → ((i : ℕ) → i < n → f i ≡ g i) → sumBelow n f ≡ sumBelow n g
 unfolding sumBelow
 sum-same zero f g same = refl
@@ -90,17 +93,8 @@ sum-plus (suc n) f g = let before = sum-plus n f g in omega arith
 pub sum-at : (n : ℕ) (f : ℕ → ℕ) (i : ℕ) → i < n → f i ≤ sumBelow n f
 unfolding sumBelow
 sum-at zero f i h = absurd (not-suc-le-zero h)
-sum-at (suc n) f i h = ⊎-elim (λ (e : i ≡ n). rw e (omega arith)) (λ (l : i < n). let before = sum-at n f i l in omega arith) (eq-or-lt-of-le (le-of-suc-le-suc h))
-
-sum-first : (n : ℕ) (f : ℕ → ℕ) → sumBelow (suc n) f ≡ f 0 + sumBelow n (λ i. f (suc i))
-unfolding sumBelow
-sum-first zero f = omega arith
-sum-first (suc n) f = let before = sum-first n f in omega arith
-
-pub total-upTo : (g : ℕ → ℕ) (n : ℕ) (f : ℕ → ℕ) → total g (upTo n f) ≡ sumBelow n (λ i. g (f i))
-unfolding total upTo sumBelow
-total-upTo g zero f = refl
-total-upTo g (suc n) f = rw (total-upTo g n (λ i. f (suc i))) (sym (sum-first n (λ i. g (f i))))
+sum-at (suc n) f i h =
+    ⊎-elim (λ (e : i ≡ n). rw e (omega arith)) (λ (l : i < n). let before = sum-at n f i l in omega arith) (eq-or-lt-of-le (le-of-suc-le-suc h))
 
 sum-zero : (n : ℕ) → sumBelow n (λ i. 0) ≡ 0
 unfolding sumBelow
@@ -112,26 +106,40 @@ unfolding sumBelow
 sum-swap zero m h = sym (sum-zero m)
 sum-swap (suc n) m h = rw (sum-swap n m h) (sym (sum-plus m (λ j. sumBelow n (λ i. h i j)) (h n)))
 
--- the one term that counts
+-- where one term counts
 sum-none : (n b : ℕ) (g : ℕ → ℕ) → n ≤ b → sumBelow n (λ i. cond (eqb b i) (g i) 0) ≡ 0
 unfolding sumBelow
 sum-none zero b g h = refl
-sum-none (suc n) b g h = rw (sum-none n b g (omega arith), ne-eqb b n (λ e. absurd (lt-irrefl n (rw e at h))))
+sum-none (suc n) b g h = rw (sum-none n b g (omega arith), ne-eqb b n (λ e. lt-irrefl n (rw e at h)))
 
 pub sum-one : (n b : ℕ) (g : ℕ → ℕ) → b < n → sumBelow n (λ i. cond (eqb b i) (g i) 0) ≡ g b
 unfolding sumBelow
 sum-one zero b g h = absurd (not-suc-le-zero h)
 sum-one (suc n) b g h =
     ⊎-elim (λ (e : b ≡ n). rw (sum-none n b g (rw e (le-refl n)), eq-eqb b n e, e) (zero-add (g n)))
-    (λ (l : b < n). rw (sum-one n b g l, ne-eqb b n (λ e. absurd (lt-irrefl n (rw e at l)))) (add-zero (g b)))
+    (λ (l : b < n). rw (sum-one n b g l, ne-eqb b n (λ e. lt-irrefl n (rw e at l))) (add-zero (g b)))
     (eq-or-lt-of-le (le-of-suc-le-suc h))
 
 -- a number counted as often as a test holds
 pub sum-times : (n : ℕ) (t : ℕ → Bool) (v : ℕ) → sumBelow n (λ i. cond (t i) v 0) ≡ sumBelow n (λ i. cond (t i) 1 0) * v
 unfolding sumBelow
 sum-times zero t v = sym (zero-mul v)
-sum-times (suc n) t v = rw (sum-times n t v, add-mul (sumBelow n (λ i. cond (t i) 1 0)) (cond (t n) 1 0) v) (ap (λ (x : ℕ). sumBelow n (λ i. cond (t i) 1 0) * v + x) (go (t n)))
+sum-times (suc n) t v =
+    let before = sumBelow n (λ i. cond (t i) 1 0) in
+    rw (sum-times n t v, add-mul before (cond (t n) 1 0) v) (ap (λ (x : ℕ). before * v + x) (go (t n)))
   where
     go : (b : Bool) → cond b v 0 ≡ cond b 1 0 * v
     go true = sym (one-mul v)
     go false = sym (zero-mul v)
+
+-- ---- a list by its indices
+
+sum-first : (n : ℕ) (f : ℕ → ℕ) → sumBelow (suc n) f ≡ f 0 + sumBelow n (λ i. f (suc i))
+unfolding sumBelow
+sum-first zero f = omega arith
+sum-first (suc n) f = let before = sum-first n f in omega arith
+
+pub total-upTo : (g : ℕ → ℕ) (n : ℕ) (f : ℕ → ℕ) → total g (upTo n f) ≡ sumBelow n (λ i. g (f i))
+unfolding total upTo sumBelow
+total-upTo g zero f = refl
+total-upTo g (suc n) f = rw (total-upTo g n (λ i. f (suc i))) (sym (sum-first n (λ i. g (f i))))

@@ -52,9 +52,10 @@ module _ {n : ℕ} {d : ℕ → ℕ → ℕ} (laws : Metric n d) {starts calls :
   pub plan-floor : {y : ℕ → ℕ} → Vouched (length starts) (length starts + length calls) f (freeCost d starts calls) y
       → planCost (length starts + length calls) (freeCost d starts calls) f ≡ floor d n starts calls
   plan-floor vouched =
-      let end = floor-attained d day in
-      let best = work-attained d day (end .0) in
+      let best = floor-attained d day in
       let some = movement-free laws day plan (freeCost d starts calls) (λ p b call low lt. rw (free-call p b call) (le-refl _)) in
       le-antisymm
-      (rw (← end .2, ← best .2) (movement-above laws day (end .1) plan vouched (λ p b call low lt. rw (free-call p b call) (le-refl _)) (λ p e lt free. rw (free-end p e free) zero-le) (best .1)))
-      (le-trans (floor-below d day (some .2)) (le-trans (work-below d day (some .0) (some .3)) (some .4)))
+      (rw (← best .4)
+        (movement-above laws day (best .2) plan vouched (λ p b call low lt. rw (free-call p b call) (le-refl _))
+          (λ p e lt end. rw (free-end p e end) zero-le) (best .3)))
+      (le-trans (floor-below d day (some .2) (some .3)) (some .4))

@@ -7,7 +7,7 @@ use Rattle.workfunction.specs.Lists.{leastBy}
 use Rattle.workfunction.specs.Position.{distance}
 use Rattle.workfunction.specs.Movement.{work}
 
--- the number below k with the least sum; among equals the least drive; then the lowest number
+-- of the numbers below k the one with the least sum; among equals the least drive; then the lowest
 unfoldable pub preferred : (ℕ → ℕ) → (ℕ → ℕ) → ℕ → ℕ
 preferred sum drive k = headD (leastBy drive (leastBy sum (upTo k (λ s. s)))) 0
 
@@ -21,7 +21,7 @@ drive d stands r s = d (getD stands s 0) r
 
 module _ (d : ℕ → ℕ → ℕ) (n : ℕ) (starts calls stands : List ℕ) (r : ℕ) where
   -- "w is taken with r as the last call"
-  abbrev workThen : List ℕ → ℕ
+  abbrev pub workThen : List ℕ → ℕ
   workThen = work d n starts (calls ++ (r ∷ []))
 
   -- the sum of a single move: w(C(s)) + d(s,r)
@@ -32,6 +32,7 @@ module _ (d : ℕ → ℕ → ℕ) (n : ℕ) (starts calls stands : List ℕ) (r
   unfoldable pub choice : ℕ
   choice = preferred moveSum (drive d stands r) (length stands)
 
-  -- the sum of a rearrangement: "w(C), again with r as the last call, plus the distance of the present stands and C"
+  -- A rearrangement is a position C that `Serves` r. "Its sum is w(C), again with r as the last call, plus the distance of
+  -- the present stands and C."
   unfoldable pub rearrangementSum : List ℕ → ℕ
   rearrangementSum C = workThen C + distance d stands C

@@ -2,4 +2,5 @@ pub mod Lists
 pub mod Position
 pub mod Movement
 pub mod Choice
+pub mod Serving
 pub mod Plan

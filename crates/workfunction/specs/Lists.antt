@@ -1,4 +1,4 @@
--- Finite choices that compute: the least of a list, those that pass a test or are least, all orders, all ways to choose.
+-- Finite choices that compute: the least of a list, what passes a test or is least, every order, every way to choose.
 use Prim.Native.Nat.{ℕ, zero, suc, _+_, min}
 use mathlib.Core.Bool.{Bool, cond}
 use mathlib.Core.List.{List, [], _∷_, map, flatMap}
@@ -20,7 +20,7 @@ unfoldable pub orders : List ℕ → List (List ℕ)
 orders [] = [] ∷ []
 orders (a ∷ l) = flatMap (inserted a) (orders l)
 
--- the sum of f below n
+-- f 0 + f 1 + .. + f (n - 1)
 unfoldable pub sumBelow : ℕ → (ℕ → ℕ) → ℕ
 sumBelow zero f = 0
 sumBelow (suc n) f = sumBelow n f + f n

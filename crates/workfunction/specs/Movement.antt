@@ -7,21 +7,24 @@ use lib.ListN.{length}
 use Rattle.workfunction.specs.Lists.{least, keep, choices}
 use Rattle.workfunction.specs.Position.{Position, positions, distance}
 
--- An instance: at least one crane, each start and each call a place of the table.
+-- What a book starts from and has been asked: at least one crane, each start and each call a place of a table of n.
 pub record Instance (n : ℕ) (starts calls : List ℕ) : Type 0 where
   pub crane : 0 < length starts
   pub started : Position n (length starts) starts
   pub called : {r : ℕ} → List·Memᴰ r calls → r < n
 
--- "A movement of a book is a list of positions: first the starts, then one for each call in order, containing that call's
--- place, and last its end": the positions between the starts and the end.
-abbrev pub Movement : ℕ → ℕ → List ℕ → List (List ℕ) → Type 0
-Movement n k = Forall₂ (λ r P. Position n k P × List·Memᴰ r P)
+-- a position "containing that call's place"
+abbrev pub Serves : ℕ → ℕ → ℕ → List ℕ → Type 0
+Serves n k r C = Position n k C × List·Memᴰ r C
 
--- a place is in a position
+-- "A movement of a book is a list of positions: first the starts, then one for each call in order, containing that call's
+-- place, and last its end": here those between the starts and the end.
+abbrev pub Movement : ℕ → ℕ → List ℕ → List (List ℕ) → Type 0
+Movement n k = Forall₂ (Serves n k)
+
 unfoldable pub contains : ℕ → List ℕ → Bool
 contains r [] = false
-contains r (p ∷ P) = eqb r p || contains r P
+contains r (p ∷ C) = eqb r p || contains r C
 
 -- every movement
 unfoldable pub movements : ℕ → ℕ → List ℕ → List (List (List ℕ))
@@ -38,6 +41,6 @@ module _ (d : ℕ → ℕ → ℕ) where
     unfoldable pub work : List ℕ → ℕ
     work C = least (map (λ M. cost starts M C) (movements n (length starts) calls))
 
-    -- "floor" is the smallest w(C) over all C."
+    -- "'floor' is the smallest w(C) over all C."
     unfoldable pub floor : ℕ
     floor = least (map work (positions n (length starts)))

@@ -1,5 +1,5 @@
--- Plans and the weights that vouch for them. Stops and followers are numbered alike: the stops are the starts, then the
--- calls; the followers are the stands, then the calls. With k cranes and m calls there are k + m of each.
+-- Plans and the weights that vouch for them. Stops and followers are numbered alike: the stops are the starts and then the
+-- calls, the followers the stands and then the calls. With k cranes and m calls there are N = k + m of each.
 use Prim.Native.Nat.{ℕ, _+_}
 use mathlib.Core.Bool.{Bool, true, cond, _&&_, _||_}
 use mathlib.Core.List.{List, _++_}
@@ -27,29 +27,36 @@ module _ (k N : ℕ) (f : ℕ → ℕ) where
   unfoldable pub onceRule : Bool
   onceRule = allBelow N (λ b. eqb (sumBelow N (follows f b)) 1)
 
-  -- f is a plan
+  -- f is a plan: f p is the follower of p
   unfoldable pub planRule : Bool
   planRule = followersRule && onceRule
 
-  -- "The weights vouch for the plan if for every stop p and every b that may follow p: y(b) − y(f(p)) ≤ d(p,b) − d(p,f(p))",
-  -- c p b being the cost of the leg from stop p to follower b.
-  unfoldable pub vouchRule : (ℕ → ℕ → ℕ) → (ℕ → ℤ) → Bool
-  vouchRule c y =
-      allBelow N (λ p. allBelow N (λ b. cond (mayFollow k p b) (leZ (y b -ℤ y (f p)) (pos (c p b) -ℤ pos (c p (f p)))) true))
+  module _ (c : ℕ → ℕ → ℕ) (y : ℕ → ℤ) where
+    -- "y(b) − y(f(p)) ≤ d(p,b) − d(p,f(p))", c p b being d(p,b)
+    unfoldable pub vouchAt : ℕ → ℕ → Bool
+    vouchAt p b = leZ (y b -ℤ y (f p)) (pos (c p b) -ℤ pos (c p (f p)))
+
+    -- "The weights vouch for the plan if for every stop p and every b that may follow p": that inequality holds.
+    unfoldable pub vouchRule : Bool
+    vouchRule = allBelow N (λ p. allBelow N (λ b. cond (mayFollow k p b) (vouchAt p b) true))
 
 -- "Its cost is the sum of d from each stop to its follower."
 unfoldable pub planCost : ℕ → (ℕ → ℕ → ℕ) → (ℕ → ℕ) → ℕ
 planCost N c f = sumBelow N (λ p. c p (f p))
+
+-- the number of stops, and of followers
+abbrev pub stops : List ℕ → List ℕ → ℕ
+stops starts calls = length starts + length calls
 
 -- the place of a stop, where the list begins with the starts, or of a follower, where it begins with the stands
 unfoldable pub place : List ℕ → List ℕ → ℕ → ℕ
 place first calls p = getD (first ++ calls) p 0
 
 module _ (d : ℕ → ℕ → ℕ) (starts calls : List ℕ) where
-  -- d from stop p to follower b
+  -- d(p,b): "For a stop or a crane, d is taken at its place or present stand."
   unfoldable pub legCost : List ℕ → ℕ → ℕ → ℕ
   legCost stands p b = d (place starts calls p) (place stands calls b)
 
-  -- the same where the end is free: a last leg costs nothing
+  -- the same with free ends: the leg after the last call costs nothing
   unfoldable pub freeCost : ℕ → ℕ → ℕ
   freeCost p b = cond (ltb b (length starts)) 0 (d (place starts calls p) (place starts calls b))

@@ -16,12 +16,12 @@ unfoldable pub positions : ℕ → ℕ → List (List ℕ)
 positions n k = choices (replicate k (upTo n (λ p. p)))
 
 module _ (d : ℕ → ℕ → ℕ) where
-  -- the sum of one pairing: each entry of A with the entry of B in the same slot
+  -- the sum of one pairing: each entry of A with the entry of B in its slot
   unfoldable pub pairing : List ℕ → List ℕ → ℕ
   pairing [] B = 0
   pairing (a ∷ A) [] = 0
   pairing (a ∷ A) (b ∷ B) = d a b + pairing A B
 
-  -- "The distance of two positions is the least sum over all pairings": B in every order beside A.
+  -- "The distance of two positions is the least sum over all pairings": A beside B in every order.
   unfoldable pub distance : List ℕ → List ℕ → ℕ
   distance A B = least (map (pairing A) (orders B))
