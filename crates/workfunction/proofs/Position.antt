@@ -140,7 +140,7 @@ pub position-set : {n k : ℕ} (C : List ℕ) (s r : ℕ) → r < n → Position
 position-set {n} C s r lt h =
     record { cranes = length-set C s r ∙ h .cranes; placed = λ m. ⊎-elim (λ e. rw e lt) (λ k. h .placed k) (in-set C s r m) }
 
-pub together : {n k : ℕ} {A B : List ℕ} → Position n k A → Position n k B → length A ≡ length B
+pub together : {n m k : ℕ} {A B : List ℕ} → Position n k A → Position m k B → length A ≡ length B
 together a b = a .cranes ∙ sym (b .cranes)
 
 module _ {n : ℕ} {d : ℕ → ℕ → ℕ} (laws : Metric n d) where

@@ -1,21 +1,25 @@
--- The stops of an instance by their numbers: their places, the calls from some number on, and sums over them.
--- Assumes nothing.
+-- The stops of an instance by their numbers: their places, the calls from some number on, and sums over them. Along a
+-- movement each crane has a tag, the stop it served last: k tags below i are a `Position i k`. Assumes nothing.
 use Prim.Native.Nat.{ℕ, suc, _+_, _-_, _<_, _≤_}
-use mathlib.Core.List.{List, [], _∷_, _++_, map, List·Memᴰ, List·Memᴰ·append-cases}
+use mathlib.Core.List.{List, [], _∷_, _++_, map, List·Memᴰ·append-cases, Memᴰ·of-map}
 use mathlib.Core.Logic.{⊎-elim}
-use mathlib.Core.Path.{_≡_, refl, sym, ap, subst, _∙_}
-use lib.ListN.{length, getD, length-append, List·getD-append}
+use mathlib.Core.Path.{_≡_, sym, ap, subst, _∙_}
+use lib.ListN.{length, getD, set, length-append, length-map, List·getD-append}
 use lib.Seq.{getD-append-seam, getD-append-add, append-snoc, take-append-seam}
-use native.Mathlib.Nat.{add-zero, zero-add, add-assoc}
+use native.Mathlib.Nat.{add-zero, zero-add, add-assoc, le-refl, le-trans}
 use native.Mathlib.Numerals.{add-one}
 use native.Mathlib.Omega.{arith}
 use Rattle.base.specs.Lists.{upTo}
 use Rattle.base.proofs.Lists.{length-upTo, map-upTo, take-upTo}
 use Rattle.workfunction.specs.Lists.{sumBelow}
+use Rattle.workfunction.specs.Position.{Position}
 use Rattle.workfunction.specs.Movement.{Instance}
-use Rattle.workfunction.specs.Plan.{place}
+use Rattle.workfunction.specs.Plan.{stops, place}
 use Rattle.workfunction.proofs.Lists.{in-upTo}
+use Rattle.workfunction.proofs.Position.{position-set}
 use Rattle.workfunction.proofs.Sums.{total, total-upTo, entry-in}
+
+-- ---- the calls that are left
 
 -- the places of the stops from i on are these
 pub data Run (stop : ℕ → ℕ) : ℕ → List ℕ → Type 0 where
@@ -26,9 +30,11 @@ pub run-calls : (first calls : List ℕ) → Run (place first calls) (length fir
 unfolding place
 run-calls first [] = over
 run-calls first (r ∷ calls) =
+    let more = run-calls (first ++ (r ∷ [])) calls in
+    let last : length (first ++ (r ∷ [])) ≡ suc (length first) = length-append first (r ∷ []) ∙ add-one (length first) in
     then (getD-append-seam first r calls 0)
     (subst (λ l. Run (λ p. getD l p 0) (suc (length first)) calls) (append-snoc first r calls)
-      (subst (λ i. Run (λ p. getD ((first ++ (r ∷ [])) ++ calls) p 0) i calls) (length-append first (r ∷ []) ∙ add-one (length first)) (run-calls (first ++ (r ∷ [])) calls)))
+      (subst (λ i. Run (λ p. getD ((first ++ (r ∷ [])) ++ calls) p 0) i calls) last more))
 
 -- the sum of f over as many numbers from i on as the list has elements
 unfoldable pub left : (ℕ → ℕ) → ℕ → List ℕ → ℕ
@@ -46,48 +52,65 @@ pub left-all : (f : ℕ → ℕ) (rs : List ℕ) → left f 0 rs ≡ sumBelow (l
 unfolding sumBelow
 left-all f rs = sym (zero-add (left f 0 rs)) ∙ sum-left f 0 rs ∙ ap (λ (m : ℕ). sumBelow m f) (zero-add (length rs))
 
--- the numbers of the starts
-unfoldable pub firstStops : ℕ → List ℕ
-firstStops k = upTo k (λ p. p)
+-- ---- tags
 
-pub first-many : (k : ℕ) → length (firstStops k) ≡ k
-unfolding firstStops
-first-many k = length-upTo k (λ p. p)
+pub tags-within : {i N k : ℕ} {T : List ℕ} → i ≤ N → Position i k T → Position N k T
+tags-within h t = record { cranes = t .cranes; placed = λ m. le-trans (t .placed m) h }
 
-pub first-below : (k t : ℕ) → List·Memᴰ t (firstStops k) → t < k
-unfolding firstStops
-first-below k t m = let at = in-upTo k (λ p. p) m in rw (at .2) (at .1)
+-- a crane has served stop i
+pub tags-set : {i k : ℕ} (T : List ℕ) (j : ℕ) → Position i k T → Position (suc i) k (set T j i)
+tags-set {i} T j t = position-set T j i (le-refl (suc i)) (tags-within (omega arith) t)
+
+-- where the cranes were at those stops
+pub tags-places : {n N k : ℕ} (stop : ℕ → ℕ) → ((p : ℕ) → p < N → stop p < n) → {T : List ℕ} → Position N k T → Position n k (map stop T)
+tags-places {n} stop on {T} t =
+    record {
+      cranes = length-map T stop ∙ t .cranes;
+      placed = λ m. let at = Memᴰ·of-map stop T m in subst (λ (p : ℕ). p < n) (at .2) (on (at .0) (t .placed (at .1)));
+    }
+
+-- at first each crane is at its start
+unfoldable pub firstTags : ℕ → List ℕ
+firstTags k = upTo k (λ p. p)
+
+pub first-tags : (k : ℕ) → Position k k (firstTags k)
+unfolding firstTags
+first-tags k =
+    record { cranes = length-upTo k (λ p. p); placed = λ m. let at = in-upTo k (λ p. p) m in subst (λ (p : ℕ). p < k) (sym (at .2)) (at .1) }
 
 module _ (starts calls : List ℕ) where
-  -- they stand at the starts
-  pub first-places : map (place starts calls) (firstStops (length starts)) ≡ starts
-  unfolding place firstStops
+  pub first-places : map (place starts calls) (firstTags (length starts)) ≡ starts
+  unfolding place firstTags
   first-places =
       map-upTo (place starts calls) (length starts) (λ p. p)
       ∙ sym (take-upTo (length starts) (starts ++ calls) 0 (rw (length-append starts calls) (omega arith)))
       ∙ take-append-seam starts calls
 
   -- a sum over the starts and over the calls is the sum over all stops
-  pub all-stops : (g : ℕ → ℕ) → total g (firstStops (length starts)) + left g (length starts) calls ≡ sumBelow (length starts + length calls) g
-  unfolding firstStops
+  pub all-stops : (g : ℕ → ℕ) → total g (firstTags (length starts)) + left g (length starts) calls ≡ sumBelow (stops starts calls) g
+  unfolding firstTags
   all-stops g = rw (total-upTo g (length starts) (λ p. p)) (sum-left g (length starts) calls)
 
--- a call has its place as a follower and as a stop; a stand has its own
-pub place-call : (starts stands calls : List ℕ) (b : ℕ) → length stands ≡ length starts → length starts ≤ b → place stands calls b ≡ place starts calls b
+-- ---- places
+
+-- every stop is at a place of the table
+pub stop-placed : {n : ℕ} {starts calls : List ℕ} → Instance n starts calls → (p : ℕ) → p < stops starts calls → place starts calls p < n
+unfolding place
+stop-placed {starts = starts} {calls} day p h =
+    ⊎-elim (λ m. day .started .placed m) (λ m. day .called m)
+    (List·Memᴰ·append-cases starts (entry-in (starts ++ calls) p (rw (length-append starts calls) h)))
+
+-- a call has the same place as a stop and as a follower; a stand has its own
+pub place-call : (starts stands calls : List ℕ) (b : ℕ) → length stands ≡ length starts → length starts ≤ b
+    → place stands calls b ≡ place starts calls b
 unfolding place
 place-call starts stands calls b same low =
     let m = b - length starts in
     let e : b ≡ length starts + m = omega arith in
     let g : b ≡ length stands + m = omega arith in
-    ap (λ (i : ℕ). getD (stands ++ calls) i 0) g ∙ getD-append-add stands calls m 0 ∙ sym (getD-append-add starts calls m 0) ∙ ap (λ (i : ℕ). getD (starts ++ calls) i 0) (sym e)
+    ap (λ (i : ℕ). getD (stands ++ calls) i 0) g ∙ getD-append-add stands calls m 0
+    ∙ sym (getD-append-add starts calls m 0) ∙ ap (λ (i : ℕ). getD (starts ++ calls) i 0) (sym e)
 
 pub place-stand : (stands calls : List ℕ) (e : ℕ) → e < length stands → place stands calls e ≡ getD stands e 0
 unfolding place
 place-stand stands calls e lt = List·getD-append stands calls 0 e lt
-
--- every stop is at a place of the table
-pub stop-placed : {n : ℕ} {starts calls : List ℕ} → Instance n starts calls → (p : ℕ) → p < length starts + length calls → place starts calls p < n
-unfolding place
-stop-placed {starts = starts} {calls} day p h =
-    ⊎-elim (λ m. day .started .placed m) (λ m. day .called m)
-    (List·Memᴰ·append-cases starts (entry-in (starts ++ calls) p (rw (length-append starts calls) h)))

@@ -1,26 +1,27 @@
 -- A plan with weights that vouch costs exactly w of the stands: some movement to the stands costs that, and none less. With
 -- free ends it costs exactly the floor. Assumes nothing.
-use Prim.Native.Nat.{ℕ, _+_, _<_, _≤_, zero-le}
-use mathlib.Core.Bool.{true, cond}
+use Prim.Native.Nat.{ℕ, _<_, _≤_, zero-le}
+use mathlib.Core.Bool.{true}
 use mathlib.Core.List.{List}
-use mathlib.Core.Path.{_≡_, refl, sym, ap, _∙_}
+use mathlib.Core.Path.{_≡_, sym, ap}
 use borrow.Author.Tests.{lt-ltb, le-ltb}
-use lib.Dec.{ltb}
 use lib.IntN.{ℤ}
 use lib.ListN.{length, getD}
-use native.Mathlib.Nat.{le-antisymm, le-trans, le-refl}
+use native.Mathlib.Nat.{le-antisymm, le-trans, le-of-eq}
 use Rattle.base.specs.Metric.{Metric}
 use Rattle.workfunction.specs.Position.{Position}
-use Rattle.workfunction.specs.Movement.{Instance, Movement, cost, work, floor}
-use Rattle.workfunction.specs.Plan.{planRule, vouchRule, planCost, place, legCost, freeCost}
+use Rattle.workfunction.specs.Movement.{Instance, work, floor}
+use Rattle.workfunction.specs.Plan.{planRule, vouchRule, planCost, stops, place, legCost, freeCost}
 use Rattle.workfunction.proofs.Lower.{movement-above}
 use Rattle.workfunction.proofs.Movement.{work-attained, work-below, floor-attained, floor-below}
-use Rattle.workfunction.proofs.Plan.{Plan, plan-facts, Vouched, vouch-facts}
+use Rattle.workfunction.proofs.Plan.{Plan, plan-facts, Vouched, vouch-facts, plan-least}
 use Rattle.workfunction.proofs.Stops.{place-call, place-stand}
 use Rattle.workfunction.proofs.Upper.{movement-to, movement-free}
 
 module _ {n : ℕ} {d : ℕ → ℕ → ℕ} (laws : Metric n d) {starts calls : List ℕ} (day : Instance n starts calls) {f : ℕ → ℕ}
-         (plan : Plan (length starts) (length starts + length calls) f) where
+         (plan : Plan (length starts) (stops starts calls) f) where
+  -- ---- the ends are the stands
+
   module _ {stands : List ℕ} (standing : Position n (length starts) stands) where
     leg-call : (p b : ℕ) → length starts ≤ b → legCost d starts calls stands p b ≡ d (place starts calls p) (place starts calls b)
     unfolding legCost
@@ -30,16 +31,19 @@ module _ {n : ℕ} {d : ℕ → ℕ → ℕ} (laws : Metric n d) {starts calls :
     unfolding legCost
     leg-stand p e end = ap (d (place starts calls p)) (place-stand stands calls e (rw (standing .cranes) end))
 
-    pub plan-work : {y : ℕ → ℕ} → Vouched (length starts) (length starts + length calls) f (legCost d starts calls stands) y
-        → planCost (length starts + length calls) (legCost d starts calls stands) f ≡ work d n starts calls stands
+    pub plan-work : {y : ℕ → ℕ} → Vouched (length starts) (stops starts calls) f (legCost d starts calls stands) y
+        → planCost (stops starts calls) (legCost d starts calls stands) f ≡ work d n starts calls stands
     plan-work vouched =
         let best = work-attained d day stands in
-        let some = movement-to laws day plan (legCost d starts calls stands) (λ p b call low lt. rw (leg-call p b call) (le-refl _)) standing
-        (λ p e lt end. rw (leg-stand p e end) (le-refl _))
+        let above = movement-above laws day standing plan vouched (λ p b call low lt. le-of-eq (leg-call p b call))
+        (λ p e lt end. le-of-eq (leg-stand p e end)) (best .1)
         in
-        le-antisymm
-        (rw (← best .2) (movement-above laws day standing plan vouched (λ p b call low lt. rw (leg-call p b call) (le-refl _)) (λ p e lt end. rw (leg-stand p e end) (le-refl _)) (best .1)))
-        (le-trans (work-below d day stands (some .1)) (some .2))
+        let some = movement-to laws day plan (legCost d starts calls stands) (λ p b call low lt. le-of-eq (sym (leg-call p b call))) standing
+        (λ p e lt end. le-of-eq (sym (leg-stand p e end)))
+        in
+        le-antisymm (rw (← best .2) above) (le-trans (work-below d day stands (some .1)) (some .2))
+
+  -- ---- free ends
 
   free-call : (p b : ℕ) → length starts ≤ b → freeCost d starts calls p b ≡ d (place starts calls p) (place starts calls b)
   unfolding freeCost
@@ -49,13 +53,36 @@ module _ {n : ℕ} {d : ℕ → ℕ → ℕ} (laws : Metric n d) {starts calls :
   unfolding freeCost
   free-end p e end = rw (lt-ltb e (length starts) end)
 
-  pub plan-floor : {y : ℕ → ℕ} → Vouched (length starts) (length starts + length calls) f (freeCost d starts calls) y
-      → planCost (length starts + length calls) (freeCost d starts calls) f ≡ floor d n starts calls
+  pub plan-floor : {y : ℕ → ℕ} → Vouched (length starts) (stops starts calls) f (freeCost d starts calls) y
+      → planCost (stops starts calls) (freeCost d starts calls) f ≡ floor d n starts calls
   plan-floor vouched =
       let best = floor-attained d day in
-      let some = movement-free laws day plan (freeCost d starts calls) (λ p b call low lt. rw (free-call p b call) (le-refl _)) in
-      le-antisymm
-      (rw (← best .4)
-        (movement-above laws day (best .2) plan vouched (λ p b call low lt. rw (free-call p b call) (le-refl _))
-          (λ p e lt end. rw (free-end p e end) zero-le) (best .3)))
-      (le-trans (floor-below d day (some .2) (some .3)) (some .4))
+      let above = movement-above laws day (best .2) plan vouched (λ p b call low lt. le-of-eq (free-call p b call))
+      (λ p e lt end. rw (free-end p e end) zero-le) (best .3)
+      in
+      let some = movement-free laws day plan (freeCost d starts calls) (λ p b call low lt. le-of-eq (sym (free-call p b call))) in
+      le-antisymm (rw (← best .4) above) (le-trans (floor-below d day (some .2) (some .3)) (some .4))
+
+-- ---- by the rules, as they are tested
+
+module _ {n : ℕ} {d : ℕ → ℕ → ℕ} (laws : Metric n d) {starts calls : List ℕ} (day : Instance n starts calls) (f : ℕ → ℕ) (y : ℕ → ℤ)
+         (plan : planRule (length starts) (stops starts calls) f ≡ true) where
+  pub witness-work : {stands : List ℕ} → Position n (length starts) stands
+      → vouchRule (length starts) (stops starts calls) f (legCost d starts calls stands) y ≡ true
+      → planCost (stops starts calls) (legCost d starts calls stands) f ≡ work d n starts calls stands
+  witness-work standing vouched =
+      let facts = plan-facts (length starts) (stops starts calls) f plan in
+      plan-work laws day facts standing (vouch-facts facts _ y vouched)
+
+  pub witness-floor : vouchRule (length starts) (stops starts calls) f (freeCost d starts calls) y ≡ true
+      → planCost (stops starts calls) (freeCost d starts calls) f ≡ floor d n starts calls
+  witness-floor vouched =
+      let facts = plan-facts (length starts) (stops starts calls) f plan in
+      plan-floor laws day facts (vouch-facts facts _ y vouched)
+
+-- among plans, whatever the legs cost
+pub witness-plans : (k N : ℕ) (f g : ℕ → ℕ) (c : ℕ → ℕ → ℕ) (y : ℕ → ℤ) → planRule k N f ≡ true → vouchRule k N f c y ≡ true
+    → planRule k N g ≡ true → planCost N c f ≤ planCost N c g
+witness-plans k N f g c y plan vouched other =
+    let facts = plan-facts k N f plan in
+    plan-least facts (vouch-facts facts c y vouched) (plan-facts k N g other)
