@@ -58,6 +58,16 @@ pub days-agree : map found days ≡ map told days
 unfolding days found told upTo least inserted orders keep leastBy choices positions pairing distance contains movements cost work floor flatMap headD drive moveSum preferred choice serve
 days-agree = refl
 
+-- "both give 20"
+pub equal-sums : map (moveSum (metres (three 10 20 10)) 3 (0 ∷ 2 ∷ []) [] (0 ∷ 2 ∷ []) 1) (0 ∷ 1 ∷ []) ≡ 20 ∷ 20 ∷ []
+unfolding upTo least inserted orders keep choices positions pairing distance contains movements cost work flatMap drive moveSum
+equal-sums = refl
+
+-- where steps out of stands count: starts 2, 0, 0 and calls 1 and 0 leave the cranes at 1, 0, 0, and a call at 2 is crane 1's
+pub out-of-stands : choice (metres (three 3 1 3)) 3 (2 ∷ 0 ∷ 0 ∷ []) (1 ∷ 0 ∷ []) (1 ∷ 0 ∷ 0 ∷ []) 2 ≡ 1
+unfolding upTo least inserted orders keep leastBy choices positions pairing distance contains movements cost work flatMap headD drive moveSum preferred choice
+out-of-stands = refl
+
 -- "With no calls [..] w(stands) is the distance from starts to stands": from 0 and 2 to 1 and 0 one crane moves, by 15
 pub no-calls : work (metres (three 10 20 15)) 3 (0 ∷ 2 ∷ []) [] (1 ∷ 0 ∷ []) ≡ 15
 unfolding upTo least inserted orders keep choices positions pairing distance contains movements cost work flatMap
@@ -117,7 +127,7 @@ witnesses =
     weights (legs (1 ∷ 0 ∷ 1 ∷ []) (0 ∷ 1 ∷ [])) 2 (3 ∷ 2 ∷ 4 ∷ 0 ∷ 1 ∷ []) (pos 0 ∷ pos 0 ∷ pos 0 ∷ pos 0 ∷ pos 0 ∷ []) 15 true ∷
     -- its floor
     weights (freeCost (metres (three 10 20 15)) (0 ∷ 2 ∷ []) (1 ∷ 0 ∷ 1 ∷ [])) 2 (3 ∷ 2 ∷ 4 ∷ 0 ∷ 1 ∷ [])
-      (minus 15 ∷ minus 15 ∷ pos 0 ∷ pos 0 ∷ minus 5 ∷ []) 15 true ∷
+    (minus 15 ∷ minus 15 ∷ pos 0 ∷ pos 0 ∷ minus 5 ∷ []) 15 true ∷
     -- no calls, and cranes that have changed places: not least, and only the stands can tell
     weights (legs [] (2 ∷ 0 ∷ [])) 2 (0 ∷ 1 ∷ []) (pos 0 ∷ pos 0 ∷ []) 40 false ∷
     []

@@ -97,7 +97,7 @@ module _ (f g : ℕ → ℕ) (k : ℕ) (some : 0 < k) where
       le-antisymm (number _ p (sym e) (sym q)) (preferred-number s h e q)
 
 module _ {n : ℕ} {d : ℕ → ℕ → ℕ} (laws : Metric n d) {starts calls stands : List ℕ} (day : Instance n starts calls)
-         (standing : Position n (length starts) stands) {r : ℕ} (asked : r < n) where
+    (standing : Position n (length starts) stands) {r : ℕ} (asked : r < n) where
   -- the crane that the least pairing of the stands with C takes to the call does as well alone
   pub lazy : {C : List ℕ} → Serves n (length starts) r C
       → (s : ℕ) × (s < length stands) × (moveSum d n starts calls stands r s ≤ rearrangementSum d n starts calls stands r C)

@@ -137,9 +137,9 @@ in-inserted a [] h = ⊎-elim (λ e. rw e (Permᴰ·refl (a ∷ []))) (λ m. abs
 in-inserted a (b ∷ l) h =
     ⊎-elim (λ e. rw e (Permᴰ·refl (a ∷ b ∷ l)))
     (λ m.
-      let rest = Memᴰ·of-map (λ t. b ∷ t) (inserted a l) m in
-      let behind : List·Permᴰ (a ∷ l) (rest .0) = in-inserted a l {t = rest .0} (rest .1) in
-      subst (List·Permᴰ (a ∷ b ∷ l)) (rest .2) (List·Permᴰ·trans (List·Permᴰ·swap refl refl) (List·Permᴰ·cons refl behind)))
+    let rest = Memᴰ·of-map (λ t. b ∷ t) (inserted a l) m in
+    let behind : List·Permᴰ (a ∷ l) (rest .0) = in-inserted a l {t = rest .0} (rest .1) in
+    subst (List·Permᴰ (a ∷ b ∷ l)) (rest .2) (List·Permᴰ·trans (List·Permᴰ·swap refl refl) (List·Permᴰ·cons refl behind)))
     (List·Memᴰ·cases-cons h)
 
 pub in-orders : (l : List ℕ) {t : List ℕ} → List·Memᴰ t (orders l) → List·Permᴰ l t
@@ -167,6 +167,6 @@ orders-in [] p = mem-cast (sym (Perm·nil-eq p)) mem-cons-self
 orders-in (a ∷ l) p =
     ∥∥₁-elim (append-of-mem (Perm·subset p a mem-cons-self)) ∥∥₁-prop
     (λ cut.
-      let split : Perm (a ∷ l) (cut .0 ++ (a ∷ cut .1)) = subst (Perm (a ∷ l)) (cut .2) p in
-      let rest = orders-in l (Perm·cons-inv (Perm·trans split (perm-middle (cut .0) (cut .1)))) in
-      mem-cast (cut .2) (∥∥₁-map rest (λ m. flatMap-in (inserted a) m (inserted-in a (cut .0) (cut .1)))))
+    let split : Perm (a ∷ l) (cut .0 ++ (a ∷ cut .1)) = subst (Perm (a ∷ l)) (cut .2) p in
+    let rest = orders-in l (Perm·cons-inv (Perm·trans split (perm-middle (cut .0) (cut .1)))) in
+    mem-cast (cut .2) (∥∥₁-map rest (λ m. flatMap-in (inserted a) m (inserted-in a (cut .0) (cut .1)))))

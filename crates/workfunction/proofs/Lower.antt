@@ -35,8 +35,8 @@ ended e a b y j (t ∷ T) (q ∷ C) h vouch =
 
 -- Let a p + y q ≤ d(p,q) + b p for every stop p with every call q after it, and with every end q at its place in C.
 module _ {n : ℕ} {d : ℕ → ℕ → ℕ} (laws : Metric n d) {k N : ℕ} (stop : ℕ → ℕ) (on : (p : ℕ) → p < N → stop p < n) (a b y : ℕ → ℕ)
-         (later : (p q : ℕ) → k ≤ q → p < q → q < N → a p + y q ≤ d (stop p) (stop q) + b p) {C : List ℕ} (c : Position n k C)
-         (ends : (p e : ℕ) → p < N → e < k → a p + y e ≤ d (stop p) (getD C e 0) + b p) where
+    (later : (p q : ℕ) → k ≤ q → p < q → q < N → a p + y q ≤ d (stop p) (stop q) + b p) {C : List ℕ} (c : Position n k C)
+    (ends : (p e : ℕ) → p < N → e < k → a p + y e ≤ d (stop p) (getD C e 0) + b p) where
   abbrev way : ℕ → ℕ → ℕ
   way t p = d (stop t) p
 

@@ -1,6 +1,6 @@
 -- The work function: attained by a movement, at most the cost of every movement, the same for every order of the end, and
 -- no more at another end than at one plus the distance between them. The floor likewise, over all ends. Assumes nothing.
-use Prim.Native.Nat.{ℕ, zero, suc, _+_, _<_, _≤_}
+use Prim.Native.Nat.{ℕ, zero, suc, _+_, _<_, _≤_, zero-le}
 use mathlib.Core.Bool.{Bool, true, false, _||_, or-true, false≢true}
 use mathlib.Core.List.{List, [], _∷_, _++_, map, List·Permᴰ, Permᴰ·symm, Forall₂, Forall₂·nil, Forall₂·cons}
 use mathlib.Core.List.{List·Memᴰ, List·Memᴰ·head, List·Memᴰ·tail, List·Memᴰ·not-nil, List·Memᴰ·cases-cons}
@@ -13,7 +13,7 @@ use lib.ListN.{length, replicate, length-replicate}
 use native.Mathlib.Nat.{not-suc-le-zero, le-antisymm, le-trans}
 use native.Mathlib.Omega.{arith}
 use Rattle.base.specs.Metric.{Metric}
-use Rattle.workfunction.specs.Lists.{keep}
+use Rattle.workfunction.specs.Lists.{least, keep, choices}
 use Rattle.workfunction.specs.Position.{Position, positions, distance}
 use Rattle.workfunction.specs.Movement.{Instance, Serves, Movement, contains, movements, cost, work, floor}
 use Rattle.workfunction.proofs.Lists.{least-attained, least-below, keep-in, in-keep, choices-in, in-choices}
@@ -127,6 +127,18 @@ module _ (d : ℕ → ℕ → ℕ) {n : ℕ} {starts calls : List ℕ} (day : In
   floor-below {C} c m =
       le-trans (least-below (work d n starts calls) (positions n (length starts)) (positions-in n c)) (work-below C m)
 
+-- ---- no calls
+
+-- w is the distance from the starts, and the floor is 0
+pub work-none : (d : ℕ → ℕ → ℕ) (n : ℕ) (starts C : List ℕ) → work d n starts [] C ≡ distance d starts C
+unfolding work movements choices least cost
+work-none d n starts C = refl
+
+pub floor-none : {n : ℕ} {d : ℕ → ℕ → ℕ} {starts : List ℕ} → Metric n d → Instance n starts [] → floor d n starts [] ≡ 0
+unfolding cost
+floor-none {d = d} laws day =
+    le-antisymm (rw (← distance-self laws (day .started)) (floor-below d day (day .started) Forall₂·nil)) zero-le
+
 -- ---- one call more
 
 pub instance-then : {n : ℕ} {starts calls : List ℕ} {r : ℕ} → Instance n starts calls → r < n → Instance n starts (calls ++ (r ∷ []))
@@ -135,8 +147,8 @@ instance-then {n} {calls = calls} day h =
       crane = day .crane;
       started = day .started;
       called = λ m.
-        ⊎-elim (λ k. day .called k) (λ k. subst (λ (q : ℕ). q < n) (sym (List·Memᴰ·eq-of-singleton k)) h)
-        (List·Memᴰ·append-cases calls m);
+          ⊎-elim (λ k. day .called k) (λ k. subst (λ (q : ℕ). q < n) (sym (List·Memᴰ·eq-of-singleton k)) h)
+          (List·Memᴰ·append-cases calls m);
     }
 
 -- the end of a movement is reached from its last position
@@ -151,7 +163,7 @@ last-serves (q ∷ calls) r laws (Forall₂·cons {b = P} h more) =
 -- so w at any end is at least w at a position that serves the last call plus the way from there
 pub work-last : {n : ℕ} {d : ℕ → ℕ → ℕ} {starts : List ℕ} (calls : List ℕ) (r : ℕ) → Metric n d → Instance n starts (calls ++ (r ∷ []))
     → (C : List ℕ) → (X : List ℕ) × Serves n (length starts) r X
-      × (work d n starts (calls ++ (r ∷ [])) X + distance d X C ≤ work d n starts (calls ++ (r ∷ [])) C)
+    × (work d n starts (calls ++ (r ∷ [])) X + distance d X C ≤ work d n starts (calls ++ (r ∷ [])) C)
 work-last {d = d} {starts} calls r laws day C =
     let best = work-attained d day C in
     let last = last-serves calls r laws (best .1) in

@@ -34,7 +34,7 @@ run-calls first (r ∷ calls) =
     let last : length (first ++ (r ∷ [])) ≡ suc (length first) = length-append first (r ∷ []) ∙ add-one (length first) in
     then (getD-append-seam first r calls 0)
     (subst (λ l. Run (λ p. getD l p 0) (suc (length first)) calls) (append-snoc first r calls)
-      (subst (λ i. Run (λ p. getD ((first ++ (r ∷ [])) ++ calls) p 0) i calls) last more))
+    (subst (λ i. Run (λ p. getD ((first ++ (r ∷ [])) ++ calls) p 0) i calls) last more))
 
 -- the sum of f over as many numbers from i on as the list has elements
 unfoldable pub left : (ℕ → ℕ) → ℕ → List ℕ → ℕ

@@ -66,10 +66,10 @@ ordered f a places g {j} (then {r = q} {rs = C} here run) U h once leg =
     let p = out .2 in
     let rest = ordered f a places g run (out .1) (suc-inj (sym (length-order p) ∙ h))
     (λ e low lt.
-      let sum = total-order (follows f e) p in
-      let none = miss f e t (λ q. lt-irrefl j (rw (sym q ∙ out .3) at low)) in
-      let all = once e (omega arith) (omega arith) in
-      omega arith)
+    let sum = total-order (follows f e) p in
+    let none = miss f e t (λ q. lt-irrefl j (rw (sym q ∙ out .3) at low)) in
+    let all = once e (omega arith) (omega arith) in
+    omega arith)
     (λ u e m low lt. leg u e (in-order (Permᴰ·symm p) (List·Memᴰ·tail m)) (omega arith) (omega arith))
     in
     let sum = total-order a p in
@@ -107,7 +107,7 @@ record Moves (n k N : ℕ) (d : ℕ → ℕ → ℕ) (stop f a : ℕ → ℕ) (i
   pub bound : (C : List ℕ) → cost d (map stop T) via C + total a last ≤ total a T + left a i rs + distance d (map stop last) C
 
 module _ {n : ℕ} {d : ℕ → ℕ → ℕ} (laws : Metric n d) {k N : ℕ} (stop : ℕ → ℕ) (on : (p : ℕ) → p < N → stop p < n) {f : ℕ → ℕ}
-         (plan : Plan k N f) (a : ℕ → ℕ) (leg : (p : ℕ) → p < N → k ≤ f p → d (stop p) (stop (f p)) ≤ a p) where
+    (plan : Plan k N f) (a : ℕ → ℕ) (leg : (p : ℕ) → p < N → k ≤ f p → d (stop p) (stop (f p)) ≤ a p) where
   -- the crane whose tag is followed by i goes there
   one-move : (T : List ℕ) (j i : ℕ) → Position N k T → j < length T → k ≤ i → i < N → f (getD T j 0) ≡ i
       → distance d (map stop T) (map stop (set T j i)) ≤ a (getD T j 0)
@@ -142,10 +142,10 @@ module _ {n : ℕ} {d : ℕ → ℕ → ℕ} (laws : Metric n d) {k N : ℕ} (st
         tags = next .tags;
         once = next .once;
         bound = λ C.
-          let rest = next .bound C in
-          let move = one-move T j i tags lt call below goes in
-          let sum = total-set a T j i lt in
-          omega arith;
+            let rest = next .bound C in
+            let move = one-move T j i tags lt call below goes in
+            let sum = total-set a T j i lt in
+            omega arith;
       }
 
   upper : {i : ℕ} {rs T : List ℕ} → Run stop i rs → Position i k T → k ≤ i → i + length rs ≡ N
@@ -174,12 +174,12 @@ module _ {n : ℕ} {d : ℕ → ℕ → ℕ} (laws : Metric n d) {k N : ℕ} (st
       in
       move-first T j (tags-within (omega arith) tags) (found .1) call now (found .2) here (tags-within now after)
       (upper run after (omega arith) (omega arith)
-        (λ b lt m. once-on T rs j i b (found .1) (found .2) (other b m) (once b lt (⊎-elim inl (λ h. inr (omega arith)) m))))
+      (λ b lt m. once-on T rs j i b (found .1) (found .2) (other b m) (once b lt (⊎-elim inl (λ h. inr (omega arith)) m))))
 
 -- A plan whose legs cost at least their distances costs at least as much as some movement.
 module _ {n : ℕ} {d : ℕ → ℕ → ℕ} (laws : Metric n d) {starts calls : List ℕ} (day : Instance n starts calls) {f : ℕ → ℕ}
-         (plan : Plan (length starts) (stops starts calls) f) (c : ℕ → ℕ → ℕ)
-         (legs : (p b : ℕ) → length starts ≤ b → p < b → b < stops starts calls → d (place starts calls p) (place starts calls b) ≤ c p b) where
+    (plan : Plan (length starts) (stops starts calls) f) (c : ℕ → ℕ → ℕ)
+    (legs : (p b : ℕ) → length starts ≤ b → p < b → b < stops starts calls → d (place starts calls p) (place starts calls b) ≤ c p b) where
   abbrev leg : ℕ → ℕ
   leg p = c p (f p)
 

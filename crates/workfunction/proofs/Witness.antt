@@ -19,7 +19,7 @@ use Rattle.workfunction.proofs.Stops.{place-call, place-stand}
 use Rattle.workfunction.proofs.Upper.{movement-to, movement-free}
 
 module _ {n : ℕ} {d : ℕ → ℕ → ℕ} (laws : Metric n d) {starts calls : List ℕ} (day : Instance n starts calls) {f : ℕ → ℕ}
-         (plan : Plan (length starts) (stops starts calls) f) where
+    (plan : Plan (length starts) (stops starts calls) f) where
   -- ---- the ends are the stands
 
   module _ {stands : List ℕ} (standing : Position n (length starts) stands) where
@@ -66,7 +66,7 @@ module _ {n : ℕ} {d : ℕ → ℕ → ℕ} (laws : Metric n d) {starts calls :
 -- ---- by the rules, as they are tested
 
 module _ {n : ℕ} {d : ℕ → ℕ → ℕ} (laws : Metric n d) {starts calls : List ℕ} (day : Instance n starts calls) (f : ℕ → ℕ) (y : ℕ → ℤ)
-         (plan : planRule (length starts) (stops starts calls) f ≡ true) where
+    (plan : planRule (length starts) (stops starts calls) f ≡ true) where
   pub witness-work : {stands : List ℕ} → Position n (length starts) stands
       → vouchRule (length starts) (stops starts calls) f (legCost d starts calls stands) y ≡ true
       → planCost (stops starts calls) (legCost d starts calls stands) f ≡ work d n starts calls stands
