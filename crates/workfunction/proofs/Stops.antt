@@ -3,7 +3,7 @@
 use Prim.Native.Nat.{ℕ, suc, _+_, _-_, _<_, _≤_}
 use mathlib.Core.List.{List, [], _∷_, _++_, map, List·Memᴰ·append-cases, Memᴰ·of-map}
 use mathlib.Core.Logic.{⊎-elim}
-use mathlib.Core.Path.{_≡_, sym, ap, subst, _∙_}
+use mathlib.Core.Path.{_≡_, refl, sym, ap, subst, _∙_}
 use lib.ListN.{length, getD, set, length-append, length-map, List·getD-append}
 use lib.Seq.{getD-append-seam, getD-append-add, append-snoc, take-append-seam}
 use native.Mathlib.Nat.{add-zero, zero-add, add-assoc, le-refl, le-trans}
@@ -51,6 +51,12 @@ sum-left f i (r ∷ rs) =
 pub left-all : (f : ℕ → ℕ) (rs : List ℕ) → left f 0 rs ≡ sumBelow (length rs) f
 unfolding sumBelow
 left-all f rs = sym (zero-add (left f 0 rs)) ∙ sum-left f 0 rs ∙ ap (λ (m : ℕ). sumBelow m f) (zero-add (length rs))
+
+pub left-none : (g : ℕ → ℕ) (i : ℕ) (rs : List ℕ) → ((p : ℕ) → i ≤ p → p < i + length rs → g p ≡ 0) → left g i rs ≡ 0
+unfolding left
+left-none g i [] none = refl
+left-none g i (r ∷ rs) none =
+    rw (none i (le-refl i) (omega arith), left-none g (suc i) rs (λ p low high. none p (omega arith) (omega arith)))
 
 -- ---- tags
 

@@ -17,7 +17,7 @@ use Rattle.workfunction.specs.Movement.{Instance, Movement, cost}
 use Rattle.workfunction.specs.Plan.{follows, planCost, stops, place}
 use Rattle.workfunction.proofs.Plan.{Plan}
 use Rattle.workfunction.proofs.Position.{pairing-map, distance-below, distance-left, distance-self, distance-moved, together}
-use Rattle.workfunction.proofs.Stops.{Run, over, then, run-calls, left, tags-within, tags-set, tags-places, firstTags, first-tags}
+use Rattle.workfunction.proofs.Stops.{Run, over, then, run-calls, left, left-none, tags-within, tags-set, tags-places, firstTags, first-tags}
 use Rattle.workfunction.proofs.Stops.{first-places, all-stops, stop-placed}
 use Rattle.workfunction.proofs.Sums.{total, total-order, total-set, length-order, in-order, set-in, entry-in}
 
@@ -51,6 +51,14 @@ pulled f b T h =
     let out = drawn (entry-in T (found .0) (found .1)) in
     (getD T (found .0) 0, out .0, out .1, found .2)
 
+-- the others still follow one tag
+once-without : (f : ℕ → ℕ) (e t : ℕ) {T U : List ℕ} → List·Permᴰ T (t ∷ U) → (f t ≡ e → ⊥) → total (follows f e) T ≡ 1 → total (follows f e) U ≡ 1
+unfolding total
+once-without f e t p other once =
+    let sum = total-order (follows f e) p in
+    let none = miss f e t other in
+    omega arith
+
 -- where each end follows one tag, the tags have an order in which each slot has the tag that its end follows
 ordered : (f a places : ℕ → ℕ) (g : ℕ → ℕ → ℕ) {j : ℕ} {C : List ℕ} → Run places j C → (U : List ℕ) → length U ≡ length C
     → ((e : ℕ) → j ≤ e → e < j + length C → total (follows f e) U ≡ 1)
@@ -65,11 +73,7 @@ ordered f a places g {j} (then {r = q} {rs = C} here run) U h once leg =
     let t = out .0 in
     let p = out .2 in
     let rest = ordered f a places g run (out .1) (suc-inj (sym (length-order p) ∙ h))
-    (λ e low lt.
-    let sum = total-order (follows f e) p in
-    let none = miss f e t (λ q. lt-irrefl j (rw (sym q ∙ out .3) at low)) in
-    let all = once e (omega arith) (omega arith) in
-    omega arith)
+    (λ e low lt. once-without f e t p (λ q. lt-irrefl j (rw (sym q ∙ out .3) at low)) (once e (omega arith) (omega arith)))
     (λ u e m low lt. leg u e (in-order (Permᴰ·symm p) (List·Memᴰ·tail m)) (omega arith) (omega arith))
     in
     let sum = total-order a p in
@@ -89,12 +93,6 @@ getD-map : (f : ℕ → ℕ) (T : List ℕ) (j : ℕ) → j < length T → getD 
 getD-map f [] j h = absurd (not-suc-le-zero h)
 getD-map f (t ∷ T) zero h = refl
 getD-map f (t ∷ T) (suc j) h = getD-map f T j (le-of-suc-le-suc h)
-
-left-none : (g : ℕ → ℕ) (i : ℕ) (rs : List ℕ) → ((p : ℕ) → i ≤ p → p < i + length rs → g p ≡ 0) → left g i rs ≡ 0
-unfolding left
-left-none g i [] none = refl
-left-none g i (r ∷ rs) none =
-    rw (none i (le-refl i) (omega arith), left-none g (suc i) rs (λ p low high. none p (omega arith) (omega arith)))
 
 -- a movement over the calls that are left, from the places of the tags T, and the tags that it ends with; a p is the cost
 -- of the leg from stop p

@@ -16,7 +16,7 @@ unfoldable pub positions : ℕ → ℕ → List (List ℕ)
 positions n k = choices (replicate k (upTo n (λ p. p)))
 
 module _ (d : ℕ → ℕ → ℕ) where
-  -- the sum of one pairing: each entry of A with the entry of B in its slot
+  -- the sum of one pairing of two lists of one length: each entry of A with the entry of B in its slot
   unfoldable pub pairing : List ℕ → List ℕ → ℕ
   pairing [] B = 0
   pairing (a ∷ A) [] = 0
