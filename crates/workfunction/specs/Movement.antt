@@ -22,6 +22,7 @@ Serves n k r C = Position n k C × List·Memᴰ r C
 abbrev pub Movement : ℕ → ℕ → List ℕ → List (List ℕ) → Type 0
 Movement n k = Forall₂ (Serves n k)
 
+-- the same as a test: r is an entry of C
 unfoldable pub contains : ℕ → List ℕ → Bool
 contains r [] = false
 contains r (p ∷ C) = eqb r p || contains r C
