@@ -105,6 +105,10 @@ module _ {A : Type 0} (f : ℕ → A) where
     pub fill-ended : (now : List A) (i : ℕ) → Filled f old n now i → n ≤ i → now ≡ upTo n f ++ drop n old
     fill-ended now i p le = subst (λ (k : ℕ). now ≡ upTo k f ++ drop k old) (le-antisymm (p .most) le) (p .same)
 
+  -- the entries filled so far
+  pub filled-at : {old : List A} {n : ℕ} {now : List A} {i : ℕ} → Filled f old n now i → (z : A) (v : ℕ) → v < i → getD now v z ≡ f v
+  filled-at {old} {i = i} p z v lt = rw (p .same, List·getD-append (upTo i f) (drop i old) z v (rw length-upTo lt)) (getD-upTo i f v z lt)
+
   -- an array of m entries, all z at first
   pub fill-padded : (m n : ℕ) (z : A) (now : List A) (i : ℕ) → Filled f (replicate m z) n now i → n ≤ i → now ≡ padded m n f z
   fill-padded m n z now i p le = fill-ended (replicate m z) n now i p le ∙ rw drop-replicate

@@ -1,7 +1,7 @@
 -- What the number of a verdict tells: of the rule that was tested, and of the tests that come after.
 -- Assumes nothing.
 use Prim.Native.Nat.{ℕ, zero, suc}
-use mathlib.Core.Bool.{Bool, true, false}
+use mathlib.Core.Bool.{Bool, true, false, _&&_}
 use mathlib.Core.Path.{_≡_, refl, sym, ap, _∙_}
 use mathlib.Core.List.{List, [], _∷_}
 use lib.ListN.{getD}
@@ -70,6 +70,11 @@ module _ (v : Verdict) where
   pub goes-on : (s t n : ℕ) → v ≡ Accepted → numberOf v ≡ s → n ≡ t → n ≡ (s then t)
   goes-on s t n e h q = q ∙ sym (ap (λ (k : ℕ). k then t) (accepts s e h))
 
+  -- an accepted verdict: of two rules under one number the second decides
+  pub second-decides : (a b : Bool) (k n : ℕ) → v ≡ Accepted → numberOf v ≡ unless a (suc k) → n ≡ unless b (suc k)
+      → n ≡ unless (a && b) (suc k)
+  second-decides a b k n e h q = rw (holds a k e h) q
+
   module _ (x : Refusal) (e : v ≡ Refused x) where
     -- a refusal has a number other than 0
     pub refused-number : numberOf v ≡ 0 → ⊥
@@ -82,6 +87,10 @@ module _ (v : Verdict) where
     -- a refusal of one is a refusal of all, under the same number
     pub stops : (b all : Bool) (r : ℕ) → numberOf v ≡ unless b r → (b ≡ false → all ≡ false) → numberOf v ≡ unless all r
     stops b all r h f = h ∙ rw (broken b r h, f (broken b r h))
+
+    -- of two rules under one number the first refuses
+    pub first-stops : (a b : Bool) (r : ℕ) → numberOf v ≡ unless a r → numberOf v ≡ unless (a && b) r
+    first-stops a b r h = stops a (a && b) r h (λ f. rw f)
 
     -- a refusal is handed up with its number, whatever test was to come after it
     pub handed-up : (s t : ℕ) → numberOf v ≡ s → numberOf v ≡ (s then t)

@@ -50,7 +50,7 @@ module _ (n k m : ℕ) where
   pub placed : Counted n k m → placesRefusal n ≡ 0
   placed h = rw (within-yes 1 64 n (h .place) (h .places))
 
-  counts-accepted : Counted n k m → countsRefusal n k m ≡ 0
+  pub counts-accepted : Counted n k m → countsRefusal n k m ≡ 0
   unfolding countsRefusal
   counts-accepted h = rw (placed h, within-yes 1 16 k (h .crane) (h .cranes), le-leb m 256 (h .calls))
 

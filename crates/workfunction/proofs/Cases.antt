@@ -13,7 +13,7 @@ use Rattle.workfunction.specs.Position.{positions, pairing, distance}
 use Rattle.workfunction.specs.Movement.{contains, movements, cost, work, floor}
 use Rattle.workfunction.specs.Choice.{preferred, drive, moveSum, choice}
 use Rattle.workfunction.specs.Serving.{Served, serve}
-use Rattle.workfunction.specs.Plan.{mayFollow, follows, followersRule, onceRule, planRule, vouchAt, vouchRule, planCost, place, legCost, freeCost}
+use Rattle.workfunction.specs.Plan.{mayFollow, follows, followersRule, onceRule, planRule, slackRule, vouchAt, vouchRule, planCost, place, legCost, freeCost}
 
 -- three places, by the legs (0,1), (0,2), (1,2)
 abbrev three : ℕ → ℕ → ℕ → List (List ℕ)
@@ -139,5 +139,5 @@ unfoldable pub weighed : Weights → ℕ × Bool
 weighed (weights _ _ _ _ cost rule) = (cost, rule)
 
 pub witnesses-agree : map vouched witnesses ≡ map weighed witnesses
-unfolding witnesses vouched weighed planCost vouchRule vouchAt mayFollow legCost freeCost place sumBelow allBelow
+unfolding witnesses vouched weighed planCost vouchRule vouchAt slackRule mayFollow legCost freeCost place sumBelow allBelow
 witnesses-agree = refl

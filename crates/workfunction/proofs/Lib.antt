@@ -5,7 +5,9 @@ pub mod Position
 pub mod Movement
 pub mod Choice
 pub mod Plan
+pub mod Flip
 pub mod Stops
 pub mod Lower
 pub mod Upper
 pub mod Witness
+pub mod NetCost

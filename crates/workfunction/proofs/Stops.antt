@@ -1,11 +1,11 @@
 -- The stops of an instance by their numbers: their places, the calls from some number on, and sums over them. Along a
 -- movement each crane has a tag, the stop it served last: k tags below i are a `Position i k`. Assumes nothing.
 use Prim.Native.Nat.{ℕ, suc, _+_, _-_, _<_, _≤_}
-use mathlib.Core.List.{List, [], _∷_, _++_, map, List·Memᴰ·append-cases, Memᴰ·of-map}
+use mathlib.Core.List.{List, [], _∷_, _++_, map, append-assoc, List·Memᴰ·append-cases, Memᴰ·of-map}
 use mathlib.Core.Logic.{⊎-elim}
 use mathlib.Core.Path.{_≡_, refl, sym, ap, subst, _∙_}
-use lib.ListN.{length, getD, set, length-append, length-map, List·getD-append}
-use lib.Seq.{getD-append-seam, getD-append-add, append-snoc, take-append-seam}
+use lib.ListN.{length, getD, set, length-append, length-set, length-map, List·getD-append}
+use lib.Seq.{getD-append-seam, getD-append-add, append-snoc, take-append-seam, set-append-left, getD-set-same, getD-set-other}
 use native.Mathlib.Nat.{add-zero, zero-add, add-assoc, le-refl, le-trans}
 use native.Mathlib.Numerals.{add-one}
 use native.Mathlib.Omega.{arith}
@@ -14,6 +14,7 @@ use Rattle.base.proofs.Lists.{length-upTo, map-upTo, take-upTo}
 use Rattle.workfunction.specs.Lists.{sumBelow}
 use Rattle.workfunction.specs.Position.{Position}
 use Rattle.workfunction.specs.Movement.{Instance}
+use Rattle.workfunction.specs.Choice.{moved}
 use Rattle.workfunction.specs.Plan.{stops, place}
 use Rattle.workfunction.proofs.Lists.{in-upTo}
 use Rattle.workfunction.proofs.Position.{position-set}
@@ -120,3 +121,22 @@ place-call starts stands calls b same low =
 pub place-stand : (stands calls : List ℕ) (e : ℕ) → e < length stands → place stands calls e ≡ getD stands e 0
 unfolding place
 place-stand stands calls e lt = List·getD-append stands calls 0 e lt
+
+-- with one call more: its own place, and those before
+pub place-last : (first calls : List ℕ) (r : ℕ) → place first (calls ++ (r ∷ [])) (stops first calls) ≡ r
+unfolding place
+place-last first calls r = getD-append-add first (calls ++ (r ∷ [])) (length calls) 0 ∙ getD-append-seam calls r [] 0
+
+pub place-early : (first calls : List ℕ) (r p : ℕ) → p < stops first calls → place first (calls ++ (r ∷ [])) p ≡ place first calls p
+unfolding place
+place-early first calls r p h =
+    rw (← append-assoc first calls (r ∷ [])) (List·getD-append (first ++ calls) (r ∷ []) 0 p (rw (length-append first calls) h))
+
+-- with crane s at r
+pub place-crane : (stands calls : List ℕ) (r s : ℕ) → s < length stands → place (moved stands r s) calls s ≡ r
+place-crane stands calls r s h =
+    place-stand (set stands s r) calls s (rw (length-set stands s r) h) ∙ getD-set-same stands s r 0 h
+
+pub place-others : (stands calls : List ℕ) (r s b : ℕ) → s < length stands → (b ≡ s → ⊥) → place (moved stands r s) calls b ≡ place stands calls b
+unfolding place
+place-others stands calls r s b h away = rw (← set-append-left stands calls s r h) (getD-set-other (stands ++ calls) s b r 0 away)

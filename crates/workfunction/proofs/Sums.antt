@@ -9,7 +9,9 @@ use mathlib.Core.Path.{_≡_, refl, sym, ap, _∙_}
 use borrow.Author.Tests.{eq-eqb, ne-eqb}
 use lib.Dec.{eqb}
 use lib.ListN.{length, getD, set}
+use native.Mathlib.Decide.{ℕ-discrete}
 use native.Mathlib.Nat.{zero-add, add-zero, zero-mul, one-mul, add-mul, le-refl, lt-irrefl, not-suc-le-zero, le-of-suc-le-suc, eq-or-lt-of-le}
+use native.Mathlib.Numerals.{add-one}
 use native.Mathlib.Omega.{arith}
 use Rattle.base.specs.Lists.{upTo}
 use Rattle.workfunction.specs.Lists.{sumBelow}
@@ -77,6 +79,10 @@ unfolding sumBelow
 sum-same zero f g same = refl
 sum-same (suc n) f g same = rw (sum-same n f g (λ i h. same i (omega arith)), same n (omega arith))
 
+pub sum-last : (n : ℕ) (f : ℕ → ℕ) → sumBelow (n + 1) f ≡ sumBelow n f + f n
+unfolding sumBelow
+sum-last n f = rw add-one
+
 pub sum-le : (n : ℕ) (f g : ℕ → ℕ) → ((i : ℕ) → i < n → f i ≤ g i) → sumBelow n f ≤ sumBelow n g
 unfolding sumBelow
 sum-le zero f g le = zero-le
@@ -96,7 +102,7 @@ sum-at zero f i h = absurd (not-suc-le-zero h)
 sum-at (suc n) f i h =
     ⊎-elim (λ (e : i ≡ n). rw e (omega arith)) (λ (l : i < n). let before = sum-at n f i l in omega arith) (eq-or-lt-of-le (le-of-suc-le-suc h))
 
-sum-zero : (n : ℕ) → sumBelow n (λ i. 0) ≡ 0
+pub sum-zero : (n : ℕ) → sumBelow n (λ i. 0) ≡ 0
 unfolding sumBelow
 sum-zero zero = refl
 sum-zero (suc n) = rw (sum-zero n)
@@ -120,6 +126,52 @@ sum-one (suc n) b g h =
     (λ (l : b < n). rw (sum-one n b g l, ne-eqb b n (λ e. lt-irrefl n (rw e at l))) (add-zero (g b)))
     (eq-or-lt-of-le (le-of-suc-le-suc h))
 
+-- functions that agree below n but at v
+pub sum-but-one : (n v : ℕ) (x z : ℕ → ℕ) → v < n → ((p : ℕ) → p < n → (p ≡ v → ⊥) → x p ≡ z p)
+    → sumBelow n x + z v ≡ sumBelow n z + x v
+unfolding sumBelow
+sum-but-one zero v x z h same = absurd (not-suc-le-zero h)
+sum-but-one (suc n) v x z h same =
+    ⊎-elim (λ (e : v ≡ n). let before = sum-same n x z (λ p l. same p (omega arith) (omega arith)) in rw (e, before) (omega arith))
+    (λ (l : v < n). let before = sum-but-one n v x z l (λ p m. same p (omega arith)) in omega (arith, before, same n (omega arith) (omega arith)))
+    (eq-or-lt-of-le (le-of-suc-le-suc h))
+
+-- f with v put in at i
+unfoldable pub put : ℕ → ℕ → (ℕ → ℕ) → ℕ → ℕ
+put i v f p = cond (eqb p i) v (f p)
+
+pub put-at : (i v : ℕ) (f : ℕ → ℕ) → put i v f i ≡ v
+unfolding put
+put-at i v f = rw (eq-eqb i i refl)
+
+pub put-other : (i v : ℕ) (f : ℕ → ℕ) (p : ℕ) → (p ≡ i → ⊥) → put i v f p ≡ f p
+unfolding put
+put-other i v f p h = rw (ne-eqb p i h)
+
+-- functions that agree below n but at i and j, where each has the other's value
+pub sum-swapped : (n i j : ℕ) (x z : ℕ → ℕ) → i < n → j < n → (i ≡ j → ⊥) → z i ≡ x j → z j ≡ x i
+    → ((p : ℕ) → p < n → (p ≡ i → ⊥) → (p ≡ j → ⊥) → z p ≡ x p) → sumBelow n z ≡ sumBelow n x
+sum-swapped n i j x z hi hj ne here there same =
+    let y : ℕ → ℕ = put i (x j) x in
+    let first = sum-but-one n i x y hi (λ p h away. sym (put-other i (x j) x p away)) in
+    let second = sum-but-one n j z y hj (λ p h away. pick p h away (ℕ-discrete p i)) in
+    let a = put-at i (x j) x in
+    let b = put-other i (x j) x j (λ e. ne (sym e)) in
+    omega arith
+  where
+    pick : (p : ℕ) → p < n → (p ≡ j → ⊥) → Dec (p ≡ i) → z p ≡ put i (x j) x p
+    pick p h away (yes e) = rw (e, put-at i (x j) x) here
+    pick p h away (no m) = rw (put-other i (x j) x p m) (same p h m away)
+
+-- two terms of a sum
+pub sum-two : (n i j : ℕ) (x : ℕ → ℕ) → i < n → j < n → (i ≡ j → ⊥) → x i + x j ≤ sumBelow n x
+sum-two n i j x hi hj ne =
+    let without = sum-but-one n i x (put i 0 x) hi (λ p h away. sym (put-other i 0 x p away)) in
+    let other = sum-at n (put i 0 x) j hj in
+    let a = put-at i 0 x in
+    let b = put-other i 0 x j (λ e. ne (sym e)) in
+    omega arith
+
 -- a number counted as often as a test holds
 pub sum-times : (n : ℕ) (t : ℕ → Bool) (v : ℕ) → sumBelow n (λ i. cond (t i) v 0) ≡ sumBelow n (λ i. cond (t i) 1 0) * v
 unfolding sumBelow
@@ -131,6 +183,19 @@ sum-times (suc n) t v =
     go : (b : Bool) → cond b v 0 ≡ cond b 1 0 * v
     go true = sym (one-mul v)
     go false = sym (zero-mul v)
+
+-- a test that is counted at all holds somewhere
+pub sum-holds : (n : ℕ) (t : ℕ → Bool) → 0 < sumBelow n (λ i. cond (t i) 1 0) → (i : ℕ) × (i < n) × (t i ≡ true)
+unfolding sumBelow
+sum-holds zero t h = absurd (not-suc-le-zero h)
+sum-holds (suc n) t h = go (t n) refl h (sum-holds n t)
+  where
+    before : ℕ
+    before = sumBelow n (λ i. cond (t i) 1 0)
+
+    go : (b : Bool) → t n ≡ b → 0 < before + cond b 1 0 → (0 < before → (i : ℕ) × (i < n) × (t i ≡ true)) → (i : ℕ) × (i < suc n) × (t i ≡ true)
+    go true e h more = (n, le-refl (suc n), e)
+    go false e h more = let found = more (omega arith) in let lt = found .1 in (found .0, omega arith, found .2)
 
 -- ---- a list by its indices
 

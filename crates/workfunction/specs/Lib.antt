@@ -4,3 +4,4 @@ pub mod Movement
 pub mod Choice
 pub mod Serving
 pub mod Plan
+pub mod NetCost

@@ -31,14 +31,19 @@ module _ (k N : ℕ) (f : ℕ → ℕ) where
   unfoldable pub planRule : Bool
   planRule = followersRule && onceRule
 
-  module _ (c : ℕ → ℕ → ℕ) (y : ℕ → ℤ) where
-    -- "y(b) − y(f(p)) ≤ d(p,b) − d(p,f(p))", c p b being d(p,b)
-    unfoldable pub vouchAt : ℕ → ℕ → Bool
-    vouchAt p b = leZ (y b -ℤ y (f p)) (pos (c p b) -ℤ pos (c p (f p)))
+module _ (f : ℕ → ℕ) (c : ℕ → ℕ → ℕ) (y : ℕ → ℤ) where
+  -- "y(b) − y(f(p)) ≤ d(p,b) − d(p,f(p))", c p b being d(p,b)
+  unfoldable pub slackRule : ℕ → ℕ → Bool
+  slackRule p b = leZ (y b -ℤ y (f p)) (pos (c p b) -ℤ pos (c p (f p)))
 
-    -- "The weights vouch for the plan if for every stop p and every b that may follow p": that inequality holds.
-    unfoldable pub vouchRule : Bool
-    vouchRule = allBelow N (λ p. allBelow N (λ b. cond (mayFollow k p b) (vouchAt p b) true))
+module _ (k : ℕ) (f : ℕ → ℕ) (c : ℕ → ℕ → ℕ) (y : ℕ → ℤ) where
+  -- the same, asked of a "b that may follow p"
+  unfoldable pub vouchAt : ℕ → ℕ → Bool
+  vouchAt p b = cond (mayFollow k p b) (slackRule f c y p b) true
+
+-- "The weights vouch for the plan if for every stop p and every b that may follow p": that inequality holds.
+unfoldable pub vouchRule : ℕ → ℕ → (ℕ → ℕ) → (ℕ → ℕ → ℕ) → (ℕ → ℤ) → Bool
+vouchRule k N f c y = allBelow N (λ p. allBelow N (vouchAt k f c y p))
 
 -- "Its cost is the sum of d from each stop to its follower."
 unfoldable pub planCost : ℕ → (ℕ → ℕ → ℕ) → (ℕ → ℕ) → ℕ

@@ -1,0 +1,4 @@
+pub mod Fresh
+pub mod Sound
+pub mod Ignored
+pub mod Insertion

@@ -1,0 +1,3 @@
+pub mod Laws
+pub mod Heads
+pub mod Rows

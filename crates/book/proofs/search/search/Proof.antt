@@ -1,0 +1,156 @@
+-- `book::search::search` meets its contract: the heads of a plan whose weights vouch for it vouch too, and at first every stop
+-- takes the new call. Assumes nothing.
+use Prim.Native.Nat.{ℕ, _+_, _*_, _<_, _≤_}
+use mathlib.Core.Bool.{true}
+use mathlib.Core.List.{List}
+use mathlib.Core.Path.{_≡_, refl, _∙_}
+use borrow.Author.Needs.{needs}
+use lib.IntN.{ℤ}
+use lib.ListN.{length}
+use native.Mathlib.Omega.{arith}
+use Rattle.base.proofs.Tests.{below-at}
+use Rattle.workfunction.specs.Plan.{planRule, vouchRule}
+use Rattle.workfunction.proofs.Plan.{plan-facts}
+use Rattle.book.specs.Book.{follower, weight, rangeRule}
+use Rattle.book.specs.Legs.{legAt, Weighed}
+use Rattle.book.specs.Search.{at, headOf, Begun, Ready, Sized}
+use Rattle.book.proofs.search.Heads.{head-high, heads-vouch}
+use Rattle.book.proofs.search.Rows.{lent, length-lent, lent-at}
+use Rattle.book.proofs.search.search.Statement.{statement}
+use Rattle.book.proofs.search.search.Tie as tie
+
+-- what is known of the plan and its weights
+module _ (k : ℕ) (weights : List ℤ) {N : ℕ} {plan costs totals parents ranks : List ℕ} (most : N < 272)
+    (weighed : N ≤ length weights) (sized : Sized N plan costs totals parents ranks)
+    (planned : planRule k N (follower plan) ≡ true) (ranged : rangeRule N (weight weights) ≡ true) where
+  below : (p : ℕ) → p < N → follower plan p < N
+  below = plan-facts k N (follower plan) planned .below
+
+  in-range : Weighed N plan weights costs
+  in-range = record {
+    followed = record { most = omega arith; planned = omega arith; weighed = weighed; costed = sized .costed; below = below };
+    ranged = below-at _ N ranged;
+  }
+
+  heads-ready : (heads : List ℕ) → follower plan N ≡ N → vouchRule k N (follower plan) (legAt costs) (weight weights) ≡ true
+      → ((p b : ℕ) → p ≤ N → b ≤ N → legAt costs p b ≤ 1000000)
+      → ((p : ℕ) → p < N → at heads p ≡ headOf (weight weights (follower plan p)) (legAt costs p (follower plan p)))
+      → Ready k N (follower plan) (legAt costs) (at heads)
+  heads-ready heads new vouched short filled =
+      let leg : (p b : ℕ) → p < N → b < N → legAt costs p b ≤ 1000000 = λ p b lt less. short p b (omega arith) (omega arith) in
+      record {
+        most = most;
+        below = below;
+        new = new;
+        cost = short;
+        high = λ p lt. rw (filled p lt) (head-high _ _ (below-at _ N ranged _ (below p lt)) (leg p _ lt (below p lt)));
+        vouched = λ p q lt less may.
+            rw (filled p lt, filled q less)
+            (heads-vouch k N (follower plan) (legAt costs) (weight weights) vouched (below-at _ N ranged) below leg p q lt less may);
+      }
+
+-- the row lent to `begin` holds the legs to the new call
+begun-row : (costs : List ℕ) (N e : ℕ) {total parent rank : ℕ → ℕ} → e ≡ 272 * N + N + 1 → Begun N (at (lent costs N e)) total parent rank
+    → Begun N (λ p. legAt costs p N) total parent rank
+begun-row costs N e end b = record {
+  totals = λ p le. b .totals p le ∙ rw (lent-at costs N e p (omega arith));
+  parents = b .parents;
+  unsettled = b .unsettled;
+  source = b .source;
+}
+
+slice-aggregate-fill-heads : tie.Need-slice-aggregate-fill-heads
+slice-aggregate-fill-heads c = search needs
+
+fill-heads-requires : tie.Need-fill-heads-requires
+fill-heads-requires c κs =
+    let p = c .before .before .before .before .before .before .pre in (
+      omega arith,
+      (
+        in-range _ _ (p .0) (p .1 .0) (p .1 .1 .0) (p .1 .1 .1 .1 .0) (p .1 .1 .1 .1 .1 .0),
+        (λ q b lt less. p .1 .1 .1 .1 .1 .1 .1 q b (omega arith) (omega arith)),
+      ),
+    )
+
+mul-row : tie.Need-mul-row
+mul-row c = search needs
+
+add-begin : tie.Need-add-begin
+add-begin c = search needs
+
+add-begin-2 : tie.Need-add-begin-2
+add-begin-2 c = search needs
+
+mul-begin : tie.Need-mul-begin
+mul-begin c = search needs
+
+sub-begin : tie.Need-sub-begin
+sub-begin c = search needs
+
+part-begin-start : tie.Need-part-begin-start
+part-begin-start c = search needs
+
+part-begin-end : tie.Need-part-begin-end
+part-begin-end c = search needs
+
+begin-requires : tie.Need-begin-requires
+begin-requires c κs =
+    let a = c .before .before .before .before .before .before .before .before .before .before .before .before in
+    let p = a .pre in
+    let s = p .1 .1 .0 in
+    let n = a .args .new in
+    let long = length-lent (a .args .costs .now) n (272 * n + n + 1) (omega arith) in
+    (p .0, (omega arith, (s .totalled, (s .parented, s .ranked))))
+
+slice-aggregate-rounds : tie.Need-slice-aggregate-rounds
+slice-aggregate-rounds c = search needs
+
+rounds-requires : tie.Need-rounds-requires
+rounds-requires c κs =
+    let b = c .before .before .before .before .before .before .before .before .before .before in
+    let f = b .before .before .before .before .before .before in
+    let a = f .before .before .before .before .before .before .before in
+    let p = a .pre in
+    let s = p .1 .1 .0 in (
+      search needs,
+      (
+        record { planned = s .planned; costed = s .costed; totalled = search needs; parented = search needs; ranked = search needs },
+        (
+          heads-ready _ (a .args .weights .now) (p .0) (p .1 .0) s (p .1 .1 .1 .1 .0) (p .1 .1 .1 .1 .1 .0) (f .fill-heads .last .1 .1 .1 .1 .0) (p .1 .1 .1 .0) (p .1 .1 .1 .1 .1 .1 .0) (p .1 .1 .1 .1 .1 .1 .1) (f .fill-heads .ensures),
+          begun-row (a .args .costs .now) (a .args .new) _ refl (b .begin .ensures),
+        ),
+      ),
+    )
+
+same-length : tie.Need-same-length
+same-length c = search needs
+
+same-length-2 : tie.Need-same-length-2
+same-length-2 c = search needs
+
+same-length-3 : tie.Need-same-length-3
+same-length-3 c = search needs
+
+returns : tie.Need-returns
+returns c = c .before .before .before .before .before .before .rounds .ensures
+
+pub search-spec : {M : Type 1} → statement M
+search-spec =
+    tie.close
+    (tie.spec
+    slice-aggregate-fill-heads
+    fill-heads-requires
+    mul-row
+    add-begin
+    add-begin-2
+    mul-begin
+    sub-begin
+    part-begin-start
+    part-begin-end
+    begin-requires
+    slice-aggregate-rounds
+    rounds-requires
+    same-length
+    same-length-2
+    same-length-3
+    returns)

@@ -1,0 +1,202 @@
+-- `book::weights::renew` meets its contract: each follower follows one stop, so that no weight is renewed twice, until that of
+-- the stand that moves. Assumes nothing.
+use Prim.Native.Nat.{ℕ, _+_, _-_, _<_, _≤_}
+use mathlib.Core.List.{List}
+use mathlib.Core.Path.{_≡_, refl, _∙_}
+use borrow.Author.Needs.{needs}
+use lib.IntN.{ℤ, pos, negℤ, _-ℤ_, +ℤ-idl}
+use lib.ListN.{length, set, length-set}
+use lib.Seq.{getD-set-same, getD-set-other}
+use mir.Syntax.{w64}
+use mir.Val.{SFits, toZ, ofZ}
+use mir.ValLaws.{toZ-ofZ}
+use native.Mathlib.Decide.{ℕ-discrete}
+use native.Mathlib.Omega.{arith}
+use Rattle.base.proofs.Signed.{neg-difference, difference-fits}
+use Rattle.book.specs.Book.{follower, weight}
+use Rattle.book.specs.Legs.{legAt}
+use Rattle.book.specs.Search.{at, netOf, Totalled, Matched, Reweighed}
+use Rattle.book.proofs.weights.renew.Statement.{statement}
+use Rattle.book.proofs.weights.renew.Tie as tie
+
+-- the opposite of a net cost, as the machine makes it and reads it back
+module _ (net : ℕ) (h : net ≤ 1099512627776) {z : ℤ} (e : z ≡ pos net -ℤ pos 1099511627776) where
+  fits : SFits w64 (negℤ (pos net -ℤ pos 1099511627776))
+  fits = rw (neg-difference (pos net) (pos 1099511627776)) (difference-fits 1099511627776 net (omega arith) (omega arith))
+
+  opposite : pos 0 -ℤ toZ w64 (ofZ w64 z) ≡ negℤ (pos net -ℤ pos 1099511627776)
+  opposite =
+      let near = difference-fits net 1099511627776 (omega arith) (omega arith) in
+      rw (e, toZ-ofZ w64 (pos net -ℤ pos 1099511627776) near) (+ℤ-idl (negℤ (pos net -ℤ pos 1099511627776)))
+
+  opposite-fits : SFits w64 (pos 0 -ℤ toZ w64 (ofZ w64 z))
+  opposite-fits = rw opposite fits
+
+  opposite-read : toZ w64 (ofZ w64 (pos 0 -ℤ toZ w64 (ofZ w64 z))) ≡ negℤ (pos net -ℤ pos 1099511627776)
+  opposite-read = rw opposite (toZ-ofZ w64 (negℤ (pos net -ℤ pos 1099511627776)) fits)
+
+module _ (new : ℕ) (f net : ℕ → ℕ) (weights₀ : List ℤ) where
+  -- the weights of the followers of the stops below p are renewed
+  record Renewing (weights : List ℤ) (p : ℕ) : Type 0 where
+    weighed : length weights ≡ length weights₀
+    renewed : (q : ℕ) → q < p → weight weights (f q) ≡ negℤ (pos (net q) -ℤ pos 1099511627776)
+    past : (b : ℕ) → new < b → weight weights b ≡ weight weights₀ b
+
+  renew-begun : Renewing weights₀ 0
+  renew-begun = record { weighed = refl; renewed = λ q lt. absurd (omega arith); past = λ b lt. refl }
+
+  module _ (long : new < length weights₀) {weights : List ℤ} {p : ℕ} (r : Renewing weights p) where
+    renew-turned : Matched new f → p ≤ new → {z : ℤ} → z ≡ negℤ (pos (net p) -ℤ pos 1099511627776) → Renewing (set weights (f p) z) (p + 1)
+    renew-turned matched le {z} e =
+        let on = matched .below p le in
+        record {
+          weighed = length-set weights (f p) z ∙ r .weighed;
+          renewed = λ q lt. pick q lt (ℕ-discrete q p);
+          past = λ b lt. getD-set-other weights (f p) b z (pos 0) (λ same. omega arith) ∙ r .past b lt;
+        }
+      where
+        pick : (q : ℕ) → q < p + 1 → Dec (q ≡ p) → weight (set weights (f p) z) (f q) ≡ negℤ (pos (net q) -ℤ pos 1099511627776)
+        pick q lt (yes same) =
+            let on = matched .below p le in
+            let kept = r .weighed in
+            rw same (getD-set-same weights (f p) z (pos 0) (omega arith) ∙ e)
+        pick q lt (no m) =
+            getD-set-other weights (f p) (f q) z (pos 0) (λ same. m (matched .only q p (omega arith) le same)) ∙ r .renewed q (omega arith)
+
+    renew-ended : (stand : ℕ) → stand ≤ new → new < p
+        → Reweighed new stand f net (weight weights₀) (weight (set weights stand (pos 0)))
+    renew-ended stand le lt =
+        let kept = r .weighed in
+        record {
+          moved = getD-set-same weights stand (pos 0) (pos 0) (omega arith);
+          others = λ q h away. getD-set-other weights stand (f q) (pos 0) (pos 0) away ∙ r .renewed q (omega arith);
+          past = λ b l. getD-set-other weights stand b (pos 0) (pos 0) (λ same. omega arith) ∙ r .past b l;
+        }
+
+abbrev Inv-loop : tie.InvT-loop
+Inv-loop new stand plan totals costs weights₀ p₀ weights p =
+    Renewing new (follower plan) (netOf (follower plan) (legAt costs) (at totals)) weights₀ weights p
+
+abbrev μ-loop : tie.MeasureT-loop
+μ-loop new stand plan totals costs weights₀ p₀ weights p = new + 1 - p
+
+-- the follower of p is in range
+follower-on : (l : tie.In-loop Inv-loop μ-loop) → let a = l .before .before .before .before .before in
+    follower (a .args .plan .now) (l .before .loop .p) ≤ a .args .new
+follower-on l = l .before .before .before .before .before .pre .1 .1 .1 .1 .1 .1 .0 .below (l .before .loop .p) (l .loop-test .taken)
+
+-- what is known of p's total
+totalled : (l : tie.In-loop Inv-loop μ-loop) → let a = l .before .before .before .before .before .args in
+    Totalled (a .new) (follower (a .plan .now)) (legAt (a .costs .now)) (at (a .totals .now))
+totalled l = l .before .before .before .before .before .pre .1 .1 .1 .1 .1 .1 .1
+
+-- its net cost
+net-of : tie.In-loop Inv-loop μ-loop → ℕ
+net-of l =
+    let a = l .before .before .before .before .before .args in
+    netOf (follower (a .plan .now)) (legAt (a .costs .now)) (at (a .totals .now)) (l .before .loop .p)
+
+net-low : (l : tie.In-loop Inv-loop μ-loop) → net-of l ≤ 1099512627776
+unfolding net-of
+net-low l = omega (arith, totalled l .most (l .before .loop .p) (l .loop-test .taken))
+
+-- the call's result is that
+called : (c : tie.After-net-cost Inv-loop μ-loop) → c .net-cost .result ≡ pos (net-of (c .before .before .before .before)) -ℤ pos 1099511627776
+unfolding net-of
+called c = rw (← c .before .cost .ensures) (c .net-cost .ensures)
+
+loop-holds : tie.Need-loop-holds Inv-loop μ-loop
+loop-holds c = renew-begun _ _ _ _
+
+mul-b : tie.Need-mul-b Inv-loop μ-loop
+mul-b c = search needs
+
+shared-slice-read-b : tie.Need-shared-slice-read-b Inv-loop μ-loop
+shared-slice-read-b c = search needs
+
+cast-b : tie.Need-cast-b Inv-loop μ-loop
+cast-b c = omega (arith, follower-on (c .before), c .before .before .before .before .before .before .pre .0)
+
+mul-net-cost : tie.Need-mul-net-cost Inv-loop μ-loop
+mul-net-cost c = search needs
+
+shared-slice-read-net-cost : tie.Need-shared-slice-read-net-cost Inv-loop μ-loop
+shared-slice-read-net-cost c = search needs
+
+cost-requires : tie.Need-cost-requires Inv-loop μ-loop
+cost-requires c κs =
+    let l = c .before .before in
+    let pre = l .before .before .before .before .before .pre in
+    (omega (arith, l .loop-test, pre .0), (omega (arith, follower-on l, pre .0), pre .1 .1 .1 .1 .1 .0))
+
+net-cost-requires : tie.Need-net-cost-requires Inv-loop μ-loop
+net-cost-requires c κs =
+    let l = c .before .before .before in
+    let t = totalled l in
+    (rw (c .cost .ensures) (t .legs (l .before .loop .p) (l .loop-test .taken)), t .most (l .before .loop .p) (l .loop-test .taken))
+
+sub-weights : tie.Need-sub-weights Inv-loop μ-loop
+sub-weights c = opposite-fits _ (net-low (c .before .before .before .before)) (called c)
+
+mul-t11 : tie.Need-mul-t11 Inv-loop μ-loop
+mul-t11 c =
+    let l = c .before .before .before .before in
+    omega (arith, follower-on l, l .before .before .before .before .before .pre .0)
+
+slice-set-from-weights : tie.Need-slice-set-from-weights Inv-loop μ-loop
+slice-set-from-weights c =
+    let l = c .before .before .before .before in
+    omega (arith, follower-on l, l .before .before .before .before .before .pre .1 .1 .1 .1 .0, l .before .loop .inv .weighed)
+
+add-p : tie.Need-add-p Inv-loop μ-loop
+add-p c = search needs
+
+loop-less : tie.Need-loop-less Inv-loop μ-loop
+loop-less c = search needs
+
+loop-again : tie.Need-loop-again Inv-loop μ-loop
+unfolding net-of
+loop-again c =
+    let l = c .before .before .before .before in
+    let pre = l .before .before .before .before .before .pre in
+    renew-turned _ _ _ _ (pre .1 .1 .1 .1 .0) (l .before .loop .inv) (pre .1 .1 .1 .1 .1 .1 .0) (l .loop-test .taken)
+    (opposite-read _ (net-low l) (called c))
+
+mul-weights : tie.Need-mul-weights Inv-loop μ-loop
+mul-weights c = search needs
+
+slice-set-of-weights : tie.Need-slice-set-of-weights Inv-loop μ-loop
+slice-set-of-weights c = search needs
+
+same-length : tie.Need-same-length Inv-loop μ-loop
+same-length c = search needs
+
+returns : tie.Need-returns Inv-loop μ-loop
+returns c =
+    let pre = c .before .before .before .before .before .pre in
+    renew-ended _ _ _ _ (pre .1 .1 .1 .1 .0) (c .before .loop .inv) _ (pre .1 .0) (c .loop-test .left)
+
+pub renew-spec : {M : Type 1} → statement M
+renew-spec =
+    tie.close
+    (tie.spec
+    Inv-loop
+    μ-loop
+    loop-holds
+    mul-b
+    shared-slice-read-b
+    cast-b
+    mul-net-cost
+    shared-slice-read-net-cost
+    cost-requires
+    net-cost-requires
+    sub-weights
+    mul-t11
+    slice-set-from-weights
+    add-p
+    loop-less
+    loop-again
+    mul-weights
+    slice-set-of-weights
+    same-length
+    returns)

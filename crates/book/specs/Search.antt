@@ -1,0 +1,98 @@
+-- What the parts of the search for net costs do. The new call has the number N; totals, parents and ranks are by stop.
+use Prim.Native.Nat.{ℕ, _+_, _-_, _<_, _≤_}
+use mathlib.Core.Bool.{cond}
+use mathlib.Core.List.{List}
+use mathlib.Core.Logic.{_⊎_}
+use mathlib.Core.Path.{_≡_}
+use lib.Dec.{ltb}
+use lib.IntN.{ℤ, pos, natAbs, negℤ, _+ℤ_, _-ℤ_}
+use lib.ListN.{length, getD}
+use Rattle.workfunction.specs.NetCost.{NetCosts}
+
+-- an array by its indices
+abbrev pub at : List ℕ → ℕ → ℕ
+at xs i = getD xs i 0
+
+-- the head of a stop: the weight of its follower, raised above every leg, less the leg to it
+unfoldable pub headOf : ℤ → ℕ → ℕ
+headOf y leg = natAbs (y +ℤ pos 1099512676352) - leg
+
+-- where the stops end that b may follow, of the stops below N
+unfoldable pub reach : ℕ → ℕ → ℕ → ℕ
+reach k N b = cond (ltb b k) N b
+
+-- at first every stop takes the new call, which is settled
+pub record Begun (N : ℕ) (row total parent rank : ℕ → ℕ) : Type 0 where
+  pub totals : (p : ℕ) → p ≤ N → total p ≡ 1099511627776 + row p
+  pub parents : (p : ℕ) → p ≤ N → parent p ≡ N
+  pub unsettled : (p : ℕ) → p < N → rank p ≡ 272
+  pub source : rank N ≡ 0
+
+-- an open stop of least key below N, the key of p being total p + head p, or N where none is open
+pub record Least (N : ℕ) (head total rank : ℕ → ℕ) (q : ℕ) : Type 0 where
+  pub below : q < N
+  pub unsettled : rank q ≡ 272
+  pub least : (p : ℕ) → p < N → rank p ≡ 272 → total q + head q ≤ total p + head p
+
+abbrev pub Picked : ℕ → (ℕ → ℕ) → (ℕ → ℕ) → (ℕ → ℕ) → ℕ → Type 0
+Picked N head total rank q = Least N head total rank q ⊎ ((p : ℕ) → p < N → rank p ≡ 272 → ⊥)
+
+-- the way over the stop `from`, of net cost `net`, is no better for p, or p takes it
+pub record Kept (limit net : ℕ) (row total parent total' parent' : ℕ → ℕ) (p : ℕ) : Type 0 where
+  pub same : total' p ≡ total p
+  pub parented : parent' p ≡ parent p
+  pub least : p < limit → total p ≤ net + row p
+
+pub record Bettered (limit net from : ℕ) (row total total' parent' : ℕ → ℕ) (p : ℕ) : Type 0 where
+  pub below : p < limit
+  pub less : net + row p < total p
+  pub taken : total' p ≡ net + row p
+  pub parented : parent' p ≡ from
+
+pub record Relaxed (limit net from : ℕ) (row total parent total' parent' : ℕ → ℕ) : Type 0 where
+  pub each : (p : ℕ) → Kept limit net row total parent total' parent' p ⊎ Bettered limit net from row total total' parent' p
+
+-- every key is below the bound from which the least is sought
+pub record Low (N : ℕ) (head total : ℕ → ℕ) : Type 0 where
+  pub low : (p : ℕ) → p < N → total p + head p < 9223372036854775808
+
+-- what the rounds stand on: a plan of N stops, leg costs within the limit of a leg, and heads that vouch
+pub record Ready (k N : ℕ) (f : ℕ → ℕ) (c : ℕ → ℕ → ℕ) (head : ℕ → ℕ) : Type 0 where
+  pub most : N < 272
+  pub below : (p : ℕ) → p < N → f p < N
+  pub new : f N ≡ N
+  pub cost : (p b : ℕ) → p ≤ N → b ≤ N → c p b ≤ 1000000
+  pub high : (p : ℕ) → p < N → head p ≤ 4398046511104
+  pub vouched : (p q : ℕ) → p < N → q < N → (f q < k) ⊎ (p < f q) → head q + c q (f q) ≤ head p + c p (f q)
+
+-- the lists of a search are long enough
+pub record Sized (N : ℕ) (plan costs totals parents ranks : List ℕ) : Type 0 where
+  pub planned : N < length plan
+  pub costed : 73984 ≤ length costs
+  pub totalled : N < length totals
+  pub parented : N < length parents
+  pub ranked : N < length ranks
+
+-- a stop's total is its net cost and the leg to its follower
+pub record Totalled (N : ℕ) (f : ℕ → ℕ) (c : ℕ → ℕ → ℕ) (total : ℕ → ℕ) : Type 0 where
+  pub legs : (p : ℕ) → p ≤ N → c p (f p) ≤ total p
+  pub most : (p : ℕ) → p ≤ N → total p ≤ 1099512627776
+
+abbrev pub netOf : (ℕ → ℕ) → (ℕ → ℕ → ℕ) → (ℕ → ℕ) → ℕ → ℕ
+netOf f c total p = total p - c p (f p)
+
+-- what the search delivers
+pub record Searched (k N : ℕ) (f : ℕ → ℕ) (c : ℕ → ℕ → ℕ) (total parent rank : ℕ → ℕ) : Type 0 where
+  pub totals : Totalled N f c total
+  pub nets : NetCosts k N 1099511627776 f c (netOf f c total) parent rank
+
+-- every follower up to N follows one stop
+pub record Matched (N : ℕ) (f : ℕ → ℕ) : Type 0 where
+  pub below : (p : ℕ) → p ≤ N → f p ≤ N
+  pub only : (p q : ℕ) → p ≤ N → q ≤ N → f p ≡ f q → p ≡ q
+
+-- the new weights: the negated net costs, and 0 for the stand s that moves
+pub record Reweighed (N s : ℕ) (f net : ℕ → ℕ) (old y : ℕ → ℤ) : Type 0 where
+  pub moved : y s ≡ pos 0
+  pub others : (q : ℕ) → q ≤ N → (f q ≡ s → ⊥) → y (f q) ≡ negℤ (pos (net q) -ℤ pos 1099511627776)
+  pub past : (b : ℕ) → N < b → y b ≡ old b

@@ -1,0 +1,68 @@
+// The leg costs as one table of numbers: a row for each follower, a column for each stop, rows of one length.
+use crate::Book;
+use road::Road;
+use road::Table;
+ghost use mathlib.Core.Path.{_≡_};
+ghost use Prim.Native.Nat.{_<_, _≤_};
+ghost use lib.ListN.{length};
+ghost use Rattle.base.specs.Lists.{upTo};
+ghost use Rattle.road.specs.Table.{distance, entry};
+ghost use Rattle.workfunction.specs.Plan.{stops, place};
+ghost use Rattle.book.specs.Legs.{legAt, LegTable};
+
+// The length of a row.
+pub(crate) const ROW: usize = Book::STOPS;
+
+// The numbers of the whole table.
+pub(crate) const COSTS: usize = Book::STOPS * Book::STOPS;
+
+// The cost of the leg from stop p to follower b.
+pub(crate) fn cost(costs: &[u32], p: usize, b: usize) -> u32
+    requires { ⌜ (p < 272) × ((b < 272) × (73984 ≤ length (now costs))) ⌝ }
+    ensures { λ r. ⌜ r ≡ legAt (now (costs .entry)) p b ⌝ }
+{
+    costs[ROW * b + p]
+}
+
+// The place of a stop, where the list begins with the starts, or of a follower, where it begins with the stands.
+fn place_of(first: &[u16], calls: &[u16], p: usize) -> usize
+    requires { ⌜ p < stops (now first) (now calls) ⌝ }
+    ensures { λ r. ⌜ r ≡ place (now (first .entry)) (now (calls .entry)) p ⌝ }
+{
+    if p < first.len() {
+        return first[p] as usize;
+    }
+    calls[p - first.len()] as usize
+}
+
+// The row of a follower at the place `to`: the metres to it from each stop.
+fn fill_row(table: &Table, starts: &[u16], calls: &[u16], to: usize, row: &mut [u32])
+    requires { ⌜ length (now row) ≤ stops (now starts) (now calls) ⌝ }
+    ensures { λ _. ⌜ now (row .exit) ≡ upTo (length (now (row .entry))) (λ p. entry (distance (now (table .entry))) (place (now (starts .entry)) (now (calls .entry)) p) to) ⌝ }
+{
+    let mut p = 0;
+    while p < row.len() {
+        row[p] = Road::metres(table, place_of(starts, calls, p), to);
+        p += 1;
+    }
+}
+
+// The whole table of a book's legs.
+pub(crate) fn fill(table: &Table, starts: &[u16], calls: &[u16], stands: &[u16], costs: &mut [u32])
+    requires { ⌜ (length (now stands) ≡ length (now starts)) × ((stops (now starts) (now calls) ≤ 272) × (73984 ≤ length (now costs))) ⌝ }
+    ensures { λ _. ⌜ LegTable (entry (distance (now (table .entry)))) (now (starts .entry)) (now (calls .entry)) (now (stands .entry)) (now (costs .exit)) ⌝ }
+{
+    let stops = starts.len() + calls.len();
+    let mut b = 0;
+    while b < stops {
+        let at = ROW * b;
+        fill_row(
+            table,
+            starts,
+            calls,
+            place_of(stands, calls, b),
+            &mut costs[at..at + stops],
+        );
+        b += 1;
+    }
+}

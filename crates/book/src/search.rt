@@ -1,0 +1,179 @@
+// The search for net costs: Dijkstra's, by the weights, from the new call. It reads leg costs and knows no places.
+use crate::Book;
+use crate::legs;
+ghost use mathlib.Core.Bool.{true};
+ghost use mathlib.Core.Path.{_≡_};
+ghost use Prim.Native.Nat.{ℕ, _+_, _-_, _<_, _≤_};
+ghost use lib.IntN.{pos, _-ℤ_};
+ghost use lib.ListN.{length};
+ghost use Rattle.workfunction.specs.Plan.{planRule, vouchRule};
+ghost use Rattle.book.specs.Book.{follower, weight, weightRule, rangeRule};
+ghost use Rattle.book.specs.Legs.{legAt, Weighed};
+ghost use Rattle.book.specs.Search.{at, headOf, reach, Begun, Low, Picked, Relaxed, Ready, Sized, Searched};
+
+// The net cost of the new call, from which the others are counted, so that none is below 0.
+pub(crate) const BASE: u64 = 1_099_511_627_776;
+
+// Weights are raised by this, so that none is below a leg.
+const LIFT: i64 = 1_099_512_676_352;
+
+// The rank of a stop that is not settled.
+const OPEN: usize = Book::STOPS;
+
+// Above every key.
+const FAR: u64 = 9_223_372_036_854_775_808;
+
+// The head of a stop: the weight of its follower, raised, less the leg to it.
+fn head(y: i64, leg: u32) -> u64
+    requires { ⌜ (weightRule y ≡ true) × (leg ≤ 1000000) ⌝ }
+    ensures { λ r. ⌜ r ≡ headOf y leg ⌝ }
+{
+    (y + LIFT) as u64 - leg as u64
+}
+
+// The heads of the stops below `new`.
+fn fill_heads(new: usize, plan: &[u16], weights: &[i64], costs: &[u32], heads: &mut [u64])
+    requires { ⌜ (new ≤ length (now heads)) × ((Weighed new (now plan) (now weights) (now costs)) × ((p b : ℕ) → p < new → b < new → legAt (now costs) p b ≤ 1000000)) ⌝ }
+    ensures { λ _. ⌜ ((p : ℕ) → p < new → at (now (heads .exit)) p ≡ headOf (weight (now (weights .entry)) (follower (now (plan .entry)) p)) (legAt (now (costs .entry)) p (follower (now (plan .entry)) p))) ⌝ }
+{
+    let mut p = 0;
+    while p < new {
+        let b = plan[p] as usize;
+        heads[p] = head(weights[b], legs::cost(costs, p, b));
+        p += 1;
+    }
+}
+
+// At first every stop may take the new call; the new call itself is settled.
+fn begin(new: usize, row: &[u32], totals: &mut [u64], parents: &mut [usize], ranks: &mut [usize])
+    requires { ⌜ (new < 272) × ((length (now row) ≡ new + 1) × ((new < length (now totals)) × ((new < length (now parents)) × (new < length (now ranks))))) ⌝ }
+    ensures { λ _. ⌜ Begun new (at (now (row .entry))) (at (now (totals .exit))) (at (now (parents .exit))) (at (now (ranks .exit))) ⌝ }
+{
+    let mut p = 0;
+    while p < row.len() {
+        totals[p] = BASE + row[p] as u64;
+        parents[p] = new;
+        ranks[p] = OPEN;
+        p += 1;
+    }
+    ranks[new] = 0;
+}
+
+// The open stop of least key below `new`, or `new` where none is open.
+fn pick(new: usize, heads: &[u64], totals: &[u64], ranks: &[usize]) -> usize
+    requires { ⌜ (new ≤ length (now heads)) × ((new ≤ length (now totals)) × ((new ≤ length (now ranks)) × Low new (at (now heads)) (at (now totals)))) ⌝ }
+    ensures { λ r. ⌜ Picked new (at (now (heads .entry))) (at (now (totals .entry))) (at (now (ranks .entry))) r ⌝ }
+{
+    let mut best = new;
+    let mut least = FAR;
+    let mut p = 0;
+    while p < new {
+        if ranks[p] == OPEN {
+            let key = totals[p] + heads[p];
+            if key < least {
+                best = p;
+                least = key;
+            }
+        }
+        p += 1;
+    }
+    best
+}
+
+// One row of work: each stop of the row takes the way over the stop `from`, of net cost `net`, where that is cheaper.
+fn relax(row: &[u32], net: u64, from: usize, totals: &mut [u64], parents: &mut [usize])
+    requires { ⌜ (length (now row) ≤ length (now totals)) × ((length (now row) ≤ length (now parents)) × (net ≤ 4398046511104)) ⌝ }
+    ensures { λ _. ⌜ Relaxed (length (now (row .entry))) net from (at (now (row .entry))) (at (now (totals .entry))) (at (now (parents .entry))) (at (now (totals .exit))) (at (now (parents .exit))) ⌝ }
+{
+    let mut p = 0;
+    while p < row.len() {
+        let total = net + row[p] as u64;
+        if total < totals[p] {
+            totals[p] = total;
+            parents[p] = from;
+        }
+        p += 1;
+    }
+}
+
+// Where the stops end that b may follow, of the stops below `new`.
+fn limit(cranes: usize, new: usize, b: usize) -> usize
+    ensures { λ r. ⌜ r ≡ reach cranes new b ⌝ }
+{
+    if b < cranes {
+        return new;
+    }
+    b
+}
+
+// Settles stop q: one row of work, over its follower.
+fn settle(
+    cranes: usize,
+    new: usize,
+    plan: &[u16],
+    costs: &[u32],
+    q: usize,
+    totals: &mut [u64],
+    parents: &mut [usize],
+)
+    requires { ⌜ (new < 272) × ((q < new) × ((follower (now plan) q < new) × ((new < length (now plan)) × ((73984 ≤ length (now costs)) × ((new ≤ length (now totals)) × ((new ≤ length (now parents)) × ((legAt (now costs) q (follower (now plan) q) ≤ at (now totals) q) × (at (now totals) q ≤ 1099512627776)))))))) ⌝ }
+    ensures { λ _. ⌜ Relaxed (reach cranes new (follower (now (plan .entry)) q)) (at (now (totals .entry)) q - legAt (now (costs .entry)) q (follower (now (plan .entry)) q)) q (λ p. legAt (now (costs .entry)) p (follower (now (plan .entry)) q)) (at (now (totals .entry))) (at (now (parents .entry))) (at (now (totals .exit))) (at (now (parents .exit))) ⌝ }
+{
+    let b = plan[q] as usize;
+    let net = totals[q] - legs::cost(costs, q, b) as u64;
+    let row = legs::ROW * b;
+    let end = row + limit(cranes, new, b);
+    relax(&costs[row..end], net, q, totals, parents);
+}
+
+// Settles the stops below `new`, each in its turn the open one of least key.
+fn rounds(
+    cranes: usize,
+    new: usize,
+    plan: &[u16],
+    heads: &[u64],
+    costs: &[u32],
+    totals: &mut [u64],
+    parents: &mut [usize],
+    ranks: &mut [usize],
+)
+    requires { ⌜ (new ≤ length (now heads)) × ((Sized new (now plan) (now costs) (now totals) (now parents) (now ranks)) × ((Ready cranes new (follower (now plan)) (legAt (now costs)) (at (now heads))) × (Begun new (λ p. legAt (now costs) p new) (at (now totals)) (at (now parents)) (at (now ranks))))) ⌝ }
+    ensures { λ _. ⌜ Searched cranes new (follower (now (plan .entry))) (legAt (now (costs .entry))) (at (now (totals .exit))) (at (now (parents .exit))) (at (now (ranks .exit))) ⌝ }
+{
+    let mut rank = 1;
+    while rank <= new {
+        let q = pick(new, heads, totals, ranks);
+        ranks[q] = rank;
+        settle(cranes, new, plan, costs, q, totals, parents);
+        rank += 1;
+    }
+}
+
+// The net costs of the stops of a plan whose weights vouch for it, for one more call, of the number `new`.
+pub(crate) fn search(
+    cranes: usize,
+    new: usize,
+    plan: &[u16],
+    weights: &[i64],
+    costs: &[u32],
+    totals: &mut [u64],
+    parents: &mut [usize],
+    ranks: &mut [usize],
+)
+    requires { ⌜ (new < 272) × ((new ≤ length (now weights)) × ((Sized new (now plan) (now costs) (now totals) (now parents) (now ranks)) × ((follower (now plan) new ≡ new) × ((planRule cranes new (follower (now plan)) ≡ true) × ((rangeRule new (weight (now weights)) ≡ true) × ((vouchRule cranes new (follower (now plan)) (legAt (now costs)) (weight (now weights)) ≡ true) × ((p b : ℕ) → p ≤ new → b ≤ new → legAt (now costs) p b ≤ 1000000))))))) ⌝ }
+    ensures { λ _. ⌜ Searched cranes new (follower (now (plan .entry))) (legAt (now (costs .entry))) (at (now (totals .exit))) (at (now (parents .exit))) (at (now (ranks .exit))) ⌝ }
+{
+    let mut heads = [0; Book::STOPS];
+    fill_heads(new, plan, weights, costs, &mut heads[..]);
+    let row = legs::ROW * new;
+    begin(new, &costs[row..row + new + 1], totals, parents, ranks);
+    rounds(cranes, new, plan, &heads[..], costs, totals, parents, ranks);
+}
+
+// The net cost of freeing the follower of a stop, from its total and the leg to that follower.
+pub(crate) fn net_cost(total: u64, leg: u32) -> i64
+    requires { ⌜ (leg ≤ total) × (total ≤ 1099512627776) ⌝ }
+    ensures { λ r. ⌜ r ≡ pos (total - leg) -ℤ pos 1099511627776 ⌝ }
+{
+    (total - leg as u64) as i64 - BASE as i64
+}
