@@ -21,7 +21,7 @@ use Rattle.workfunction.specs.Position.{Position}
 use Rattle.workfunction.proofs.NetCost.{follower-on, whole, by-stops, net-most, net-least, net-work, flipped-plan, flipped-rule}
 use Rattle.workfunction.proofs.Plan.{Plan, plan-rule, stop-before, stop-only}
 use Rattle.book.specs.Book.{weightRule, rangeRule}
-use Rattle.book.specs.Search.{netOf, Searched, Matched, Reweighed}
+use Rattle.book.specs.Search.{netBase, netOf, Searched, Matched, Reweighed}
 use Rattle.book.proofs.weights.Laws.{in-range}
 
 pub matched-plan : {k N : ℕ} {f : ℕ → ℕ} → Plan k N f → f N ≡ N → Matched N f
@@ -36,8 +36,8 @@ matched-plan plan self =
 module _ {k N : ℕ} {f : ℕ → ℕ} {c : ℕ → ℕ → ℕ} {total parent rank : ℕ → ℕ} (plan : Plan k N f) (self : f N ≡ N)
     (searched : Searched k N f c total parent rank) {s : ℕ} {old y : ℕ → ℤ} (new : Reweighed N s f (netOf f c total) old y) where
   -- the base less a net cost
-  weighed : (q : ℕ) → q ≤ N → (f q ≡ s → ⊥) → y (f q) ≡ pos 1099511627776 -ℤ pos (netOf f c total q)
-  weighed q h away = new .others q h away ∙ neg-difference (pos (netOf f c total q)) (pos 1099511627776)
+  weighed : (q : ℕ) → q ≤ N → (f q ≡ s → ⊥) → y (f q) ≡ pos netBase -ℤ pos (netOf f c total q)
+  weighed q h away = new .others q h away ∙ neg-difference (pos (netOf f c total q)) (pos netBase)
 
   module _ (few : N < 272) (short : (p b : ℕ) → p ≤ N → b ≤ N → c p b ≤ 1000000) where
     -- whatever the old weights were
@@ -53,7 +53,7 @@ module _ {k N : ℕ} {f : ℕ → ℕ} {c : ℕ → ℕ → ℕ} {total parent r
         each q on (no away) =
             let least = net-least plan self (searched .nets) 1000000 short q on in
             let most = net-most plan self (searched .nets) 1000000 short q on in
-            rw (weighed q on away) (difference-within 1099511627776 (netOf f c total q) 272000000 1000000 (omega arith) (omega arith))
+            rw (weighed q on away) (difference-within netBase (netOf f c total q) 272000000 1000000 (omega arith) (omega arith))
 
     pub next-range : rangeRule (N + 1) y ≡ true
     next-range = below-all _ (N + 1) ranged
@@ -73,7 +73,7 @@ module _ {n : ℕ} {d : ℕ → ℕ → ℕ} (laws : Metric n d) {starts calls s
     (searched : Searched (length starts) (stops starts calls) f c total parent rank)
     (table : (p b : ℕ) → p ≤ stops starts calls → b ≤ stops starts calls → c p b ≡ legCost d starts (calls ++ (r ∷ [])) stands p b) where
   -- the net costs are those of the legs
-  pub nets : NetCosts (length starts) (stops starts calls) 1099511627776 f (legCost d starts (calls ++ (r ∷ [])) stands) (netOf f c total) parent rank
+  pub nets : NetCosts (length starts) (stops starts calls) netBase f (legCost d starts (calls ++ (r ∷ [])) stands) (netOf f c total) parent rank
   nets = record {
     source = costs .source;
     least = λ p q lt le may.
@@ -91,7 +91,7 @@ module _ {n : ℕ} {d : ℕ → ℕ → ℕ} (laws : Metric n d) {starts calls s
     ranked = costs .ranked;
   }
     where
-      costs : NetCosts (length starts) (stops starts calls) 1099511627776 f c (netOf f c total) parent rank
+      costs : NetCosts (length starts) (stops starts calls) netBase f c (netOf f c total) parent rank
       costs = searched .nets
 
       leg : (p q : ℕ) → p ≤ stops starts calls → q ≤ stops starts calls → c p (f q) ≡ legCost d starts (calls ++ (r ∷ [])) stands p (f q)
@@ -103,7 +103,7 @@ module _ {n : ℕ} {d : ℕ → ℕ → ℕ} (laws : Metric n d) {starts calls s
 
   module _ (t s : ℕ) (lt : t < stops starts calls) (stand : s < length starts) (serves : f t ≡ s) where
     -- the net cost of that stop tells w for the crane
-    pub crane-work : work d n starts (calls ++ (r ∷ [])) (moved stands r s) + 1099511627776
+    pub crane-work : work d n starts (calls ++ (r ∷ [])) (moved stands r s) + netBase
         ≡ planCost (stops starts calls) (legCost d starts calls stands) f + netOf f c total t
     crane-work = net-work laws day standing asked plan self nets t s lt stand serves
 

@@ -25,7 +25,7 @@ pub record Followed (n : ℕ) (plan : List ℕ) (weights : List ℤ) (costs : Li
   pub most : n ≤ 272
   pub planned : n ≤ length plan
   pub weighed : n ≤ length weights
-  pub costed : 73984 ≤ length costs
+  pub costed : 272 * 272 ≤ length costs
   pub below : (p : ℕ) → p < n → follower plan p < n
 
 -- the same, each weight within its range

@@ -1,5 +1,5 @@
 -- What the parts of the search for net costs do. The new call has the number N; totals, parents and ranks are by stop.
-use Prim.Native.Nat.{ℕ, _+_, _-_, _<_, _≤_}
+use Prim.Native.Nat.{ℕ, _+_, _-_, _*_, _<_, _≤_}
 use mathlib.Core.Bool.{cond}
 use mathlib.Core.List.{List}
 use mathlib.Core.Logic.{_⊎_}
@@ -13,9 +13,17 @@ use Rattle.workfunction.specs.NetCost.{NetCosts}
 abbrev pub at : List ℕ → ℕ → ℕ
 at xs i = getD xs i 0
 
--- the head of a stop: the weight of its follower, raised above every leg, less the leg to it
+-- net costs are counted from this, so that none is below 0
+abbrev pub netBase : ℕ
+netBase = 1099511627776
+
+-- weights are raised by this, 2^40 + 2^20, so that none is below a leg
+abbrev pub lift : ℕ
+lift = 1099512676352
+
+-- the head of a stop: the weight of its follower, raised, less the leg to it
 unfoldable pub headOf : ℤ → ℕ → ℕ
-headOf y leg = natAbs (y +ℤ pos 1099512676352) - leg
+headOf y leg = natAbs (y +ℤ pos lift) - leg
 
 -- where the stops end that b may follow, of the stops below N
 unfoldable pub reach : ℕ → ℕ → ℕ → ℕ
@@ -23,7 +31,7 @@ reach k N b = cond (ltb b k) N b
 
 -- at first every stop takes the new call, which is settled
 pub record Begun (N : ℕ) (row total parent rank : ℕ → ℕ) : Type 0 where
-  pub totals : (p : ℕ) → p ≤ N → total p ≡ 1099511627776 + row p
+  pub totals : (p : ℕ) → p ≤ N → total p ≡ netBase + row p
   pub parents : (p : ℕ) → p ≤ N → parent p ≡ N
   pub unsettled : (p : ℕ) → p < N → rank p ≡ 272
   pub source : rank N ≡ 0
@@ -68,7 +76,7 @@ pub record Ready (k N : ℕ) (f : ℕ → ℕ) (c : ℕ → ℕ → ℕ) (head :
 -- the lists of a search are long enough
 pub record Sized (N : ℕ) (plan costs totals parents ranks : List ℕ) : Type 0 where
   pub planned : N < length plan
-  pub costed : 73984 ≤ length costs
+  pub costed : 272 * 272 ≤ length costs
   pub totalled : N < length totals
   pub parented : N < length parents
   pub ranked : N < length ranks
@@ -76,7 +84,7 @@ pub record Sized (N : ℕ) (plan costs totals parents ranks : List ℕ) : Type 0
 -- a stop's total is its net cost and the leg to its follower
 pub record Totalled (N : ℕ) (f : ℕ → ℕ) (c : ℕ → ℕ → ℕ) (total : ℕ → ℕ) : Type 0 where
   pub legs : (p : ℕ) → p ≤ N → c p (f p) ≤ total p
-  pub most : (p : ℕ) → p ≤ N → total p ≤ 1099512627776
+  pub most : (p : ℕ) → p ≤ N → total p ≤ netBase + 1000000
 
 abbrev pub netOf : (ℕ → ℕ) → (ℕ → ℕ → ℕ) → (ℕ → ℕ) → ℕ → ℕ
 netOf f c total p = total p - c p (f p)
@@ -84,7 +92,7 @@ netOf f c total p = total p - c p (f p)
 -- what the search delivers
 pub record Searched (k N : ℕ) (f : ℕ → ℕ) (c : ℕ → ℕ → ℕ) (total parent rank : ℕ → ℕ) : Type 0 where
   pub totals : Totalled N f c total
-  pub nets : NetCosts k N 1099511627776 f c (netOf f c total) parent rank
+  pub nets : NetCosts k N netBase f c (netOf f c total) parent rank
 
 -- every follower up to N follows one stop
 pub record Matched (N : ℕ) (f : ℕ → ℕ) : Type 0 where
@@ -94,5 +102,5 @@ pub record Matched (N : ℕ) (f : ℕ → ℕ) : Type 0 where
 -- the new weights: the negated net costs, and 0 for the stand s that moves
 pub record Reweighed (N s : ℕ) (f net : ℕ → ℕ) (old y : ℕ → ℤ) : Type 0 where
   pub moved : y s ≡ pos 0
-  pub others : (q : ℕ) → q ≤ N → (f q ≡ s → ⊥) → y (f q) ≡ negℤ (pos (net q) -ℤ pos 1099511627776)
+  pub others : (q : ℕ) → q ≤ N → (f q ≡ s → ⊥) → y (f q) ≡ negℤ (pos (net q) -ℤ pos netBase)
   pub past : (b : ℕ) → N < b → y b ≡ old b

@@ -3,7 +3,7 @@ use crate::Book;
 use road::Road;
 use road::Table;
 ghost use mathlib.Core.Path.{_≡_};
-ghost use Prim.Native.Nat.{_<_, _≤_};
+ghost use Prim.Native.Nat.{_*_, _<_, _≤_};
 ghost use lib.ListN.{length};
 ghost use Rattle.base.specs.Lists.{upTo};
 ghost use Rattle.road.specs.Table.{distance, entry};
@@ -18,7 +18,7 @@ pub(crate) const COSTS: usize = Book::STOPS * Book::STOPS;
 
 // The cost of the leg from stop p to follower b.
 pub(crate) fn cost(costs: &[u32], p: usize, b: usize) -> u32
-    requires { ⌜ (p < 272) × ((b < 272) × (73984 ≤ length (now costs))) ⌝ }
+    requires { ⌜ (p < 272) × ((b < 272) × (272 * 272 ≤ length (now costs))) ⌝ }
     ensures { λ r. ⌜ r ≡ legAt (now (costs .entry)) p b ⌝ }
 {
     costs[ROW * b + p]
@@ -49,7 +49,7 @@ fn fill_row(table: &Table, starts: &[u16], calls: &[u16], to: usize, row: &mut [
 
 // The whole table of a book's legs.
 pub(crate) fn fill(table: &Table, starts: &[u16], calls: &[u16], stands: &[u16], costs: &mut [u32])
-    requires { ⌜ (length (now stands) ≡ length (now starts)) × ((stops (now starts) (now calls) ≤ 272) × (73984 ≤ length (now costs))) ⌝ }
+    requires { ⌜ (length (now stands) ≡ length (now starts)) × ((stops (now starts) (now calls) ≤ 272) × (272 * 272 ≤ length (now costs))) ⌝ }
     ensures { λ _. ⌜ LegTable (entry (distance (now (table .entry)))) (now (starts .entry)) (now (calls .entry)) (now (stands .entry)) (now (costs .exit)) ⌝ }
 {
     let stops = starts.len() + calls.len();

@@ -3,13 +3,13 @@ use crate::Book;
 use crate::legs;
 ghost use mathlib.Core.Bool.{true};
 ghost use mathlib.Core.Path.{_≡_};
-ghost use Prim.Native.Nat.{ℕ, _+_, _-_, _<_, _≤_};
+ghost use Prim.Native.Nat.{ℕ, _+_, _-_, _*_, _<_, _≤_};
 ghost use lib.IntN.{pos, _-ℤ_};
 ghost use lib.ListN.{length};
 ghost use Rattle.workfunction.specs.Plan.{planRule, vouchRule};
 ghost use Rattle.book.specs.Book.{follower, weight, weightRule, rangeRule};
 ghost use Rattle.book.specs.Legs.{legAt, Weighed};
-ghost use Rattle.book.specs.Search.{at, headOf, reach, Begun, Low, Picked, Relaxed, Ready, Sized, Searched};
+ghost use Rattle.book.specs.Search.{at, netBase, headOf, reach, Begun, Low, Picked, Relaxed, Ready, Sized, Searched};
 
 // The net cost of the new call, from which the others are counted, so that none is below 0.
 pub(crate) const BASE: u64 = 1_099_511_627_776;
@@ -116,7 +116,7 @@ fn settle(
     totals: &mut [u64],
     parents: &mut [usize],
 )
-    requires { ⌜ (new < 272) × ((q < new) × ((follower (now plan) q < new) × ((new < length (now plan)) × ((73984 ≤ length (now costs)) × ((new ≤ length (now totals)) × ((new ≤ length (now parents)) × ((legAt (now costs) q (follower (now plan) q) ≤ at (now totals) q) × (at (now totals) q ≤ 1099512627776)))))))) ⌝ }
+    requires { ⌜ (new < 272) × ((q < new) × ((follower (now plan) q < new) × ((new < length (now plan)) × ((272 * 272 ≤ length (now costs)) × ((new ≤ length (now totals)) × ((new ≤ length (now parents)) × ((legAt (now costs) q (follower (now plan) q) ≤ at (now totals) q) × (at (now totals) q ≤ netBase + 1000000)))))))) ⌝ }
     ensures { λ _. ⌜ Relaxed (reach cranes new (follower (now (plan .entry)) q)) (at (now (totals .entry)) q - legAt (now (costs .entry)) q (follower (now (plan .entry)) q)) q (λ p. legAt (now (costs .entry)) p (follower (now (plan .entry)) q)) (at (now (totals .entry))) (at (now (parents .entry))) (at (now (totals .exit))) (at (now (parents .exit))) ⌝ }
 {
     let b = plan[q] as usize;
@@ -172,8 +172,8 @@ pub(crate) fn search(
 
 // The net cost of freeing the follower of a stop, from its total and the leg to that follower.
 pub(crate) fn net_cost(total: u64, leg: u32) -> i64
-    requires { ⌜ (leg ≤ total) × (total ≤ 1099512627776) ⌝ }
-    ensures { λ r. ⌜ r ≡ pos (total - leg) -ℤ pos 1099511627776 ⌝ }
+    requires { ⌜ (leg ≤ total) × (total ≤ netBase + 1000000) ⌝ }
+    ensures { λ r. ⌜ r ≡ pos (total - leg) -ℤ pos netBase ⌝ }
 {
     (total - leg as u64) as i64 - BASE as i64
 }

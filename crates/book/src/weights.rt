@@ -6,7 +6,7 @@ use base::Refusal;
 use base::Verdict;
 ghost use mathlib.Core.Bool.{true};
 ghost use mathlib.Core.Path.{_≡_};
-ghost use Prim.Native.Nat.{ℕ, _<_, _≤_};
+ghost use Prim.Native.Nat.{ℕ, _*_, _<_, _≤_};
 ghost use lib.IntN.{pos, _-ℤ_};
 ghost use lib.ListN.{length};
 ghost use lib.Signed.{leZ};
@@ -164,7 +164,7 @@ pub(crate) fn renew(
     costs: &[u32],
     weights: &mut [i64],
 )
-    requires { ⌜ (new < 272) × ((stand ≤ new) × ((new < length (now plan)) × ((new < length (now totals)) × ((new < length (now weights)) × ((73984 ≤ length (now costs)) × (Matched new (follower (now plan)) × Totalled new (follower (now plan)) (legAt (now costs)) (at (now totals)))))))) ⌝ }
+    requires { ⌜ (new < 272) × ((stand ≤ new) × ((new < length (now plan)) × ((new < length (now totals)) × ((new < length (now weights)) × ((272 * 272 ≤ length (now costs)) × (Matched new (follower (now plan)) × Totalled new (follower (now plan)) (legAt (now costs)) (at (now totals)))))))) ⌝ }
     ensures { λ _. ⌜ Reweighed new stand (follower (now (plan .entry))) (netOf (follower (now (plan .entry))) (legAt (now (costs .entry))) (at (now (totals .entry)))) (weight (now (weights .entry))) (weight (now (weights .exit))) ⌝ }
 {
     let mut p = 0;

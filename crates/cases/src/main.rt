@@ -1,5 +1,7 @@
 // Runs document 01's cases on the compiled library and prints, for each group, how many were tried and how many agree.
 // The cases marked P are proved of the definitions too, as one table: specs/Cases.antt.
+mod books;
+
 use base::Verdict;
 use dayfile::Day;
 use libc::STDOUT_FILENO;
@@ -153,4 +155,5 @@ fn line(name: &[u8], tried: u64, agree: u64) {
 fn main() {
     line(b"tables", TABLES_TRIED as u64, tables());
     line(b"files", FILES_TRIED, files());
+    line(b"books", books::TRIED, books::agree());
 }

@@ -63,7 +63,7 @@ module _ (n : ℕ) (c : ℕ → ℕ → ℕ) (old : List ℕ) where
         ∙ List·getD-append row _ 0 p (rw length-upTo h) ∙ getD-upTo n (λ p. c p b) p 0 h
 
   -- the part from 272 * b to 272 * b + n is filled
-  pub rows-turned : (now part : List ℕ) (b : ℕ) → n ≤ 272 → 73984 ≤ length old → RowsFilled n c old now b → b < n
+  pub rows-turned : (now part : List ℕ) (b : ℕ) → n ≤ 272 → 272 * 272 ≤ length old → RowsFilled n c old now b → b < n
       → part ≡ upTo (length (take (272 * b + n - 272 * b) (drop (272 * b) now))) (λ p. c p b)
       → RowsFilled n c old (take (272 * b) now ++ (part ++ drop (272 * b + n - 272 * b) (drop (272 * b) now))) (b + 1)
   rows-turned now part b most fits f lt same =

@@ -12,32 +12,32 @@ use Rattle.base.proofs.Tests.{below-at}
 use Rattle.workfunction.specs.Plan.{slackRule, vouchAt, vouchRule}
 use Rattle.workfunction.proofs.Plan.{may-follow}
 use Rattle.book.specs.Book.{weightRule}
-use Rattle.book.specs.Search.{headOf}
+use Rattle.book.specs.Search.{lift, headOf}
 use Rattle.book.proofs.weights.Laws.{Ranged, ranged}
 
 -- m is the weight y raised
 pub record Lifted (y : ℤ) (m : ℕ) : Type 0 where
-  pub sum : y +ℤ pos 1099512676352 ≡ pos m
-  pub parts : m + minus y ≡ plus y + 1099512676352
+  pub sum : y +ℤ pos lift ≡ pos m
+  pub parts : m + minus y ≡ plus y + lift
 
 by-sign : (y : ℤ) → Ranged y → (m : ℕ) × Lifted y m
 unfolding plus minus
-by-sign (pos n) r = (n + 1099512676352, record { sum = refl; parts = omega arith })
+by-sign (pos n) r = (n + lift, record { sum = refl; parts = omega arith })
 by-sign (negsuc n) r =
     let low : suc n ≤ 1099511627776 = r .low in
-    (1099512676352 - suc n, record { sum = rw (le-ltb 1099512676352 (suc n) (omega arith)); parts = omega arith })
+    (lift - suc n, record { sum = rw (le-ltb lift (suc n) (omega arith)); parts = omega arith })
 
 pub lifted : (y : ℤ) → weightRule y ≡ true → (m : ℕ) × Lifted y m
 lifted y h = by-sign y (ranged y h)
 
 module _ (y : ℤ) (leg : ℕ) (h : weightRule y ≡ true) (short : leg ≤ 1000000) where
   -- the head and the leg make the raised weight
-  pub head-parts : headOf y leg + leg + minus y ≡ plus y + 1099512676352
+  pub head-parts : headOf y leg + leg + minus y ≡ plus y + lift
   unfolding headOf
   head-parts =
       let up = lifted y h in
       let low = ranged y h .low in
-      let e : natAbs (y +ℤ pos 1099512676352) ≡ up .0 = ap natAbs (up .1 .sum) in
+      let e : natAbs (y +ℤ pos lift) ≡ up .0 = ap natAbs (up .1 .sum) in
       let parts = up .1 .parts in
       omega arith
 

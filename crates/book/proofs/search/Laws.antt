@@ -9,9 +9,8 @@ use lib.Dec.{eqb}
 use native.Mathlib.Decide.{ℕ-discrete, decLt}
 use native.Mathlib.Omega.{arith}
 use Rattle.workfunction.specs.Lists.{sumBelow}
-use Rattle.workfunction.specs.NetCost.{NetCosts}
 use Rattle.workfunction.proofs.Sums.{sum-at, sum-but-one}
-use Rattle.book.specs.Search.{reach, Begun, Least, Picked, Kept, Bettered, Relaxed, Low, Ready, Searched}
+use Rattle.book.specs.Search.{netBase, reach, Begun, Least, Picked, Kept, Bettered, Relaxed, Low, Ready, Searched}
 
 -- ---- how far a follower reaches
 
@@ -79,9 +78,9 @@ pub record Held (k N : ℕ) (f : ℕ → ℕ) (c : ℕ → ℕ → ℕ) (i : ℕ
 
 pub record Settling (k N : ℕ) (f : ℕ → ℕ) (c : ℕ → ℕ → ℕ) (head : ℕ → ℕ) (i : ℕ) (total parent rank : ℕ → ℕ) : Type 0 where
   pub source : rank N ≡ 0
-  pub new : total N ≡ 1099511627776 + c N N
-  pub low : (p : ℕ) → p ≤ N → 1099511627776 ≤ total p + 1000000 * i
-  pub high : (p : ℕ) → p ≤ N → total p ≤ 1099512627776
+  pub new : total N ≡ netBase + c N N
+  pub low : (p : ℕ) → p ≤ N → netBase ≤ total p + 1000000 * i
+  pub high : (p : ℕ) → p ≤ N → total p ≤ netBase + 1000000
   pub ranks : (p : ℕ) → p < N → (rank p ≡ 272) ⊎ (rank p < i)
   pub least : (p q : ℕ) → p < N → q ≤ N → rank q < i → (f q < k) ⊎ (p < f q) → total p + c q (f q) ≤ total q + c p (f q)
   pub held : (p : ℕ) → p < N → Held k N f c i total rank p (parent p)
@@ -254,10 +253,10 @@ module _ {k N : ℕ} {f : ℕ → ℕ} {c : ℕ → ℕ → ℕ} {head : ℕ →
               omega arith
           go (inr b) = let e = b .taken in let g = q-stays in let leg = leg-q in omega arith
 
-      new-low : (p : ℕ) → p ≤ N → 1099511627776 ≤ total' p + 1000000 * (i + 1)
+      new-low : (p : ℕ) → p ≤ N → netBase ≤ total' p + 1000000 * (i + 1)
       new-low p le = go (row .each p)
         where
-          go : Way p → 1099511627776 ≤ total' p + 1000000 * (i + 1)
+          go : Way p → netBase ≤ total' p + 1000000 * (i + 1)
           go (inl h) = let e = h .same in let l = s .low p le in omega arith
           go (inr b) =
               let e = b .taken in

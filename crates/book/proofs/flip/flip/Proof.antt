@@ -74,6 +74,9 @@ parent-planned t =
     let l = t .before .before in
     omega (arith, chains t .below (l .loop .here) (below-new t), l .before .pre .1 .1 .1 .0, l .loop .inv .planned)
 
+here-planned : (t : tie.Then1 Inv-loop μ-loop) → let l = t .before .before in l .loop .here < length (l .loop .plan)
+here-planned t = let l = t .before .before in omega (arith, below-new t, l .before .pre .1 .1 .1 .0, l .loop .inv .planned)
+
 loop-holds : tie.Need-loop-holds Inv-loop μ-loop
 loop-holds c = walk-begun _ _ _ _ _ (c .pre .0)
 
@@ -111,7 +114,11 @@ mul-plan-3 : tie.Need-mul-plan-3 Inv-loop μ-loop
 mul-plan-3 c = let on = parent-planned (c .before .before .before) in search needs
 
 slice-write-plan-2 : tie.Need-slice-write-plan-2 Inv-loop μ-loop
-slice-write-plan-2 c = let on = parent-planned (c .before .before .before) in search needs
+slice-write-plan-2 c =
+    let t = c .before .before .before in
+    let on = parent-planned t in
+    let own = here-planned t in
+    search needs
 
 loop-less : tie.Need-loop-less Inv-loop μ-loop
 loop-less c =

@@ -8,13 +8,13 @@ use lib.ListN.{length, set}
 use lib.Seq.{getD-set-same, getD-set-other}
 use native.Mathlib.Omega.{arith}
 use Rattle.base.proofs.Lists.{Filled, fill-begun, fill-turned, filled-at}
-use Rattle.book.specs.Search.{at, Begun}
+use Rattle.book.specs.Search.{at, netBase, Begun}
 use Rattle.book.proofs.search.begin.Statement.{statement}
 use Rattle.book.proofs.search.begin.Tie as tie
 
 -- the first entries are filled
 record Beginning (new : ℕ) (row totals₀ parents₀ ranks₀ totals parents ranks : List ℕ) (p : ℕ) : Type 0 where
-  totalled : Filled (λ v. 1099511627776 + at row v) totals₀ (new + 1) totals p
+  totalled : Filled (λ v. netBase + at row v) totals₀ (new + 1) totals p
   parented : Filled (λ v. new) parents₀ (new + 1) parents p
   ranked : Filled (λ v. 272) ranks₀ (new + 1) ranks p
 

@@ -1,23 +1,22 @@
 -- `book::search::head` meets its contract: the raised weight is a natural number above every leg. Assumes nothing.
 use Prim.Native.Nat.{ℕ, _<_}
 use mathlib.Core.Path.{_≡_}
-use borrow.Author.Needs.{needs}
 use lib.IntN.{ℤ, pos, _+ℤ_}
 use mir.Syntax.{w64}
 use mir.Val.{SFits, toZ, ofZ}
 use mir.ValLaws.{toZ-ofZ}
 use native.Mathlib.Omega.{arith}
-use Rattle.book.specs.Search.{headOf}
+use Rattle.book.specs.Search.{lift, headOf}
 use Rattle.book.proofs.search.Heads.{Lifted, lifted}
 use Rattle.book.proofs.search.head.Statement.{statement}
 use Rattle.book.proofs.search.head.Tie as tie
 use Rattle.book.proofs.weights.Laws.{ranged}
 
 module _ (y : ℤ) (f : SFits w64 y) {m : ℕ} (up : Lifted y m) (fits : m < 9223372036854775808) where
-  sum-fits : SFits w64 (toZ w64 (ofZ w64 y) +ℤ pos 1099512676352)
+  sum-fits : SFits w64 (toZ w64 (ofZ w64 y) +ℤ pos lift)
   sum-fits = rw (toZ-ofZ w64 y f, up .sum) (record { sfits = fits })
 
-  sum-read : toZ w64 (ofZ w64 (toZ w64 (ofZ w64 y) +ℤ pos 1099512676352)) ≡ pos m
+  sum-read : toZ w64 (ofZ w64 (toZ w64 (ofZ w64 y) +ℤ pos lift)) ≡ pos m
   sum-read = rw (toZ-ofZ w64 y f, up .sum) (toZ-ofZ w64 (pos m) (record { sfits = fits }))
 
 -- the raised weight

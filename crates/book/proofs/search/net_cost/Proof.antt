@@ -1,6 +1,6 @@
 -- `book::search::net_cost` meets its contract: both numbers are far below the limit of the signed type, and so is their
 -- difference. Assumes nothing.
-use Prim.Native.Nat.{ℕ, _-_, _≤_}
+use Prim.Native.Nat.{ℕ, _+_, _-_, _≤_}
 use mathlib.Core.Path.{_≡_}
 use borrow.Author.Needs.{needs}
 use lib.IntN.{pos, _-ℤ_}
@@ -9,22 +9,23 @@ use mir.Val.{SFits, toZ, ofZ}
 use mir.ValLaws.{toZ-ofZ, toZ-pos}
 use native.Mathlib.Omega.{arith}
 use Rattle.base.proofs.Signed.{difference-fits}
+use Rattle.book.specs.Search.{netBase}
 use Rattle.book.proofs.search.net_cost.Statement.{statement}
 use Rattle.book.proofs.search.net_cost.Tie as tie
 
 -- the difference of the net cost as the machine holds it and the base
-module _ (net : ℕ) (h : net ≤ 1099512627776) where
-  near : SFits w64 (pos net -ℤ pos 1099511627776)
-  near = difference-fits net 1099511627776 (omega arith) (omega arith)
+module _ (net : ℕ) (h : net ≤ netBase + 1000000) where
+  near : SFits w64 (pos net -ℤ pos netBase)
+  near = difference-fits net netBase (omega arith) (omega arith)
 
   read : toZ w64 net ≡ pos net
   read = toZ-pos w64 net (omega arith)
 
-  net-fits : SFits w64 (toZ w64 net -ℤ pos 1099511627776)
+  net-fits : SFits w64 (toZ w64 net -ℤ pos netBase)
   net-fits = rw read near
 
-  net-read : toZ w64 (ofZ w64 (toZ w64 net -ℤ pos 1099511627776)) ≡ pos net -ℤ pos 1099511627776
-  net-read = rw read (toZ-ofZ w64 (pos net -ℤ pos 1099511627776) near)
+  net-read : toZ w64 (ofZ w64 (toZ w64 net -ℤ pos netBase)) ≡ pos net -ℤ pos netBase
+  net-read = rw read (toZ-ofZ w64 (pos net -ℤ pos netBase) near)
 
 sub-result : tie.Need-sub-result
 sub-result c = search needs

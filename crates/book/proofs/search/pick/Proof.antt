@@ -1,13 +1,12 @@
 -- `book::search::pick` meets its contract: the loop keeps the least key of the open stops below p, and whose it is.
 -- Assumes nothing.
 use Prim.Native.Nat.{ℕ, _+_, _-_, _<_, _≤_}
-use mathlib.Core.List.{List}
 use mathlib.Core.Logic.{_⊎_, inl, inr, ⊎-elim}
 use mathlib.Core.Path.{_≡_, refl}
 use borrow.Author.Needs.{needs}
 use native.Mathlib.Decide.{ℕ-discrete}
 use native.Mathlib.Omega.{arith}
-use Rattle.book.specs.Search.{at, Least, Picked, Low}
+use Rattle.book.specs.Search.{at, Picked, Low}
 use Rattle.book.proofs.search.pick.Statement.{statement}
 use Rattle.book.proofs.search.pick.Tie as tie
 

@@ -9,7 +9,7 @@ use lib.Seq.{getD-set-same, getD-set-other}
 use native.Mathlib.Omega.{arith}
 use Rattle.book.specs.Book.{follower}
 use Rattle.book.specs.Legs.{legAt}
-use Rattle.book.specs.Search.{at, Least, Sized, Ready}
+use Rattle.book.specs.Search.{at, Least}
 use Rattle.book.proofs.search.Laws.{Ranked, Settling, search-begun, search-turned, search-ended, some-open, leg-within, keys-low}
 use Rattle.book.proofs.search.rounds.Statement.{statement}
 use Rattle.book.proofs.search.rounds.Tie as tie

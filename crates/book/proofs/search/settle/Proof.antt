@@ -10,7 +10,7 @@ use native.Mathlib.Nat.{le-of-lt}
 use native.Mathlib.Omega.{arith}
 use Rattle.book.specs.Book.{follower}
 use Rattle.book.specs.Legs.{legAt}
-use Rattle.book.specs.Search.{at, reach, Kept, Bettered, Relaxed}
+use Rattle.book.specs.Search.{at, Kept, Bettered, Relaxed}
 use Rattle.book.proofs.search.Laws.{reach-most}
 use Rattle.book.proofs.search.Rows.{lent, length-lent, lent-at}
 use Rattle.book.proofs.search.settle.Statement.{statement}

@@ -15,38 +15,38 @@ use native.Mathlib.Omega.{arith}
 use Rattle.base.proofs.Signed.{neg-difference, difference-fits}
 use Rattle.book.specs.Book.{follower, weight}
 use Rattle.book.specs.Legs.{legAt}
-use Rattle.book.specs.Search.{at, netOf, Totalled, Matched, Reweighed}
+use Rattle.book.specs.Search.{at, netBase, netOf, Totalled, Matched, Reweighed}
 use Rattle.book.proofs.weights.renew.Statement.{statement}
 use Rattle.book.proofs.weights.renew.Tie as tie
 
 -- the opposite of a net cost, as the machine makes it and reads it back
-module _ (net : ℕ) (h : net ≤ 1099512627776) {z : ℤ} (e : z ≡ pos net -ℤ pos 1099511627776) where
-  fits : SFits w64 (negℤ (pos net -ℤ pos 1099511627776))
-  fits = rw (neg-difference (pos net) (pos 1099511627776)) (difference-fits 1099511627776 net (omega arith) (omega arith))
+module _ (net : ℕ) (h : net ≤ netBase + 1000000) {z : ℤ} (e : z ≡ pos net -ℤ pos netBase) where
+  fits : SFits w64 (negℤ (pos net -ℤ pos netBase))
+  fits = rw (neg-difference (pos net) (pos netBase)) (difference-fits netBase net (omega arith) (omega arith))
 
-  opposite : pos 0 -ℤ toZ w64 (ofZ w64 z) ≡ negℤ (pos net -ℤ pos 1099511627776)
+  opposite : pos 0 -ℤ toZ w64 (ofZ w64 z) ≡ negℤ (pos net -ℤ pos netBase)
   opposite =
-      let near = difference-fits net 1099511627776 (omega arith) (omega arith) in
-      rw (e, toZ-ofZ w64 (pos net -ℤ pos 1099511627776) near) (+ℤ-idl (negℤ (pos net -ℤ pos 1099511627776)))
+      let near = difference-fits net netBase (omega arith) (omega arith) in
+      rw (e, toZ-ofZ w64 (pos net -ℤ pos netBase) near) (+ℤ-idl (negℤ (pos net -ℤ pos netBase)))
 
   opposite-fits : SFits w64 (pos 0 -ℤ toZ w64 (ofZ w64 z))
   opposite-fits = rw opposite fits
 
-  opposite-read : toZ w64 (ofZ w64 (pos 0 -ℤ toZ w64 (ofZ w64 z))) ≡ negℤ (pos net -ℤ pos 1099511627776)
-  opposite-read = rw opposite (toZ-ofZ w64 (negℤ (pos net -ℤ pos 1099511627776)) fits)
+  opposite-read : toZ w64 (ofZ w64 (pos 0 -ℤ toZ w64 (ofZ w64 z))) ≡ negℤ (pos net -ℤ pos netBase)
+  opposite-read = rw opposite (toZ-ofZ w64 (negℤ (pos net -ℤ pos netBase)) fits)
 
 module _ (new : ℕ) (f net : ℕ → ℕ) (weights₀ : List ℤ) where
   -- the weights of the followers of the stops below p are renewed
   record Renewing (weights : List ℤ) (p : ℕ) : Type 0 where
     weighed : length weights ≡ length weights₀
-    renewed : (q : ℕ) → q < p → weight weights (f q) ≡ negℤ (pos (net q) -ℤ pos 1099511627776)
+    renewed : (q : ℕ) → q < p → weight weights (f q) ≡ negℤ (pos (net q) -ℤ pos netBase)
     past : (b : ℕ) → new < b → weight weights b ≡ weight weights₀ b
 
   renew-begun : Renewing weights₀ 0
   renew-begun = record { weighed = refl; renewed = λ q lt. absurd (omega arith); past = λ b lt. refl }
 
   module _ (long : new < length weights₀) {weights : List ℤ} {p : ℕ} (r : Renewing weights p) where
-    renew-turned : Matched new f → p ≤ new → {z : ℤ} → z ≡ negℤ (pos (net p) -ℤ pos 1099511627776) → Renewing (set weights (f p) z) (p + 1)
+    renew-turned : Matched new f → p ≤ new → {z : ℤ} → z ≡ negℤ (pos (net p) -ℤ pos netBase) → Renewing (set weights (f p) z) (p + 1)
     renew-turned matched le {z} e =
         let on = matched .below p le in
         record {
@@ -55,7 +55,7 @@ module _ (new : ℕ) (f net : ℕ → ℕ) (weights₀ : List ℤ) where
           past = λ b lt. getD-set-other weights (f p) b z (pos 0) (λ same. omega arith) ∙ r .past b lt;
         }
       where
-        pick : (q : ℕ) → q < p + 1 → Dec (q ≡ p) → weight (set weights (f p) z) (f q) ≡ negℤ (pos (net q) -ℤ pos 1099511627776)
+        pick : (q : ℕ) → q < p + 1 → Dec (q ≡ p) → weight (set weights (f p) z) (f q) ≡ negℤ (pos (net q) -ℤ pos netBase)
         pick q lt (yes same) =
             let on = matched .below p le in
             let kept = r .weighed in
@@ -96,12 +96,12 @@ net-of l =
     let a = l .before .before .before .before .before .args in
     netOf (follower (a .plan .now)) (legAt (a .costs .now)) (at (a .totals .now)) (l .before .loop .p)
 
-net-low : (l : tie.In-loop Inv-loop μ-loop) → net-of l ≤ 1099512627776
+net-low : (l : tie.In-loop Inv-loop μ-loop) → net-of l ≤ netBase + 1000000
 unfolding net-of
 net-low l = omega (arith, totalled l .most (l .before .loop .p) (l .loop-test .taken))
 
 -- the call's result is that
-called : (c : tie.After-net-cost Inv-loop μ-loop) → c .net-cost .result ≡ pos (net-of (c .before .before .before .before)) -ℤ pos 1099511627776
+called : (c : tie.After-net-cost Inv-loop μ-loop) → c .net-cost .result ≡ pos (net-of (c .before .before .before .before)) -ℤ pos netBase
 unfolding net-of
 called c = rw (← c .before .cost .ensures) (c .net-cost .ensures)
 

@@ -14,7 +14,7 @@ returns : tie.Need-returns
 unfolding vouchAt
 returns c =
     let a = c .before .before .before .before .args in
-    rw (may-follow _ (a .p) _ (inl (c .before .if1 .taken))) (c .test-leg .ensures)
+    rw (may-follow (a .cranes) (a .p) (a .b) (inl (c .before .if1 .taken))) (c .test-leg .ensures)
 
 test-leg-requires-2 : tie.Need-test-leg-requires-2
 test-leg-requires-2 c κs = search needs
@@ -23,7 +23,7 @@ returns-2 : tie.Need-returns-2
 unfolding vouchAt
 returns-2 c =
     let a = c .before .before .before .before .before .args in
-    rw (may-follow (a .cranes) _ _ (inr (c .before .if2 .taken))) (c .test-leg2 .ensures)
+    rw (may-follow (a .cranes) (a .p) (a .b) (inr (c .before .if2 .taken))) (c .test-leg2 .ensures)
 
 returns-3 : tie.Need-returns-3
 unfolding vouchAt
