@@ -1,4 +1,4 @@
--- The leg costs of a book as one table of numbers, and what the tests of weights stand on.
+-- The leg costs of a book as one table of numbers, and what the tests of weights stand on: no public contract cites these.
 use Prim.Native.Nat.{ℕ, _+_, _*_, _<_, _≤_}
 use mathlib.Core.Bool.{true}
 use mathlib.Core.List.{List}

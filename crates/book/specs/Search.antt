@@ -1,4 +1,5 @@
--- What the parts of the search for net costs do. The new call has the number N; totals, parents and ranks are by stop.
+-- What the parts of the search for net costs do, of the flip and of the new weights: no public contract cites these. The new
+-- call has the number N; totals, parents and ranks are by stop. The rank 272 is that of an open stop, one that is not settled.
 use Prim.Native.Nat.{ℕ, _+_, _-_, _*_, _<_, _≤_}
 use mathlib.Core.Bool.{cond}
 use mathlib.Core.List.{List}
@@ -36,27 +37,30 @@ pub record Begun (N : ℕ) (row total parent rank : ℕ → ℕ) : Type 0 where
   pub unsettled : (p : ℕ) → p < N → rank p ≡ 272
   pub source : rank N ≡ 0
 
--- an open stop of least key below N, the key of p being total p + head p, or N where none is open
+-- q is an open stop of least key below N, the key of p being total p + head p
 pub record Least (N : ℕ) (head total rank : ℕ → ℕ) (q : ℕ) : Type 0 where
   pub below : q < N
   pub unsettled : rank q ≡ 272
   pub least : (p : ℕ) → p < N → rank p ≡ 272 → total q + head q ≤ total p + head p
 
+-- the same, or none is open
 abbrev pub Picked : ℕ → (ℕ → ℕ) → (ℕ → ℕ) → (ℕ → ℕ) → ℕ → Type 0
 Picked N head total rank q = Least N head total rank q ⊎ ((p : ℕ) → p < N → rank p ≡ 272 → ⊥)
 
--- the way over the stop `from`, of net cost `net`, is no better for p, or p takes it
+-- the way over the stop `from`, of net cost `net`, is no better for p
 pub record Kept (limit net : ℕ) (row total parent total' parent' : ℕ → ℕ) (p : ℕ) : Type 0 where
   pub same : total' p ≡ total p
   pub parented : parent' p ≡ parent p
   pub least : p < limit → total p ≤ net + row p
 
+-- it is better, and p takes it
 pub record Bettered (limit net from : ℕ) (row total total' parent' : ℕ → ℕ) (p : ℕ) : Type 0 where
   pub below : p < limit
   pub less : net + row p < total p
   pub taken : total' p ≡ net + row p
   pub parented : parent' p ≡ from
 
+-- one row of work: one or the other holds of each stop
 pub record Relaxed (limit net from : ℕ) (row total parent total' parent' : ℕ → ℕ) : Type 0 where
   pub each : (p : ℕ) → Kept limit net row total parent total' parent' p ⊎ Bettered limit net from row total total' parent' p
 
@@ -86,6 +90,7 @@ pub record Totalled (N : ℕ) (f : ℕ → ℕ) (c : ℕ → ℕ → ℕ) (total
   pub legs : (p : ℕ) → p ≤ N → c p (f p) ≤ total p
   pub most : (p : ℕ) → p ≤ N → total p ≤ netBase + 1000000
 
+-- the net cost of p
 abbrev pub netOf : (ℕ → ℕ) → (ℕ → ℕ → ℕ) → (ℕ → ℕ) → ℕ → ℕ
 netOf f c total p = total p - c p (f p)
 
