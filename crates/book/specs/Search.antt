@@ -1,7 +1,7 @@
 -- What the parts of the search for net costs do, of the flip and of the new weights: no public contract cites these. The new
 -- call has the number N; totals, parents and ranks are by stop. The rank 272 is that of an open stop, one that is not settled.
 use Prim.Native.Nat.{ℕ, _+_, _-_, _*_, _<_, _≤_}
-use mathlib.Core.Bool.{cond}
+use mathlib.Core.Bool.{true, cond}
 use mathlib.Core.List.{List}
 use mathlib.Core.Logic.{_⊎_}
 use mathlib.Core.Path.{_≡_}
@@ -9,6 +9,9 @@ use lib.Dec.{ltb}
 use lib.IntN.{ℤ, pos, natAbs, negℤ, _+ℤ_, _-ℤ_}
 use lib.ListN.{length, getD}
 use Rattle.workfunction.specs.NetCost.{NetCosts}
+use Rattle.workfunction.specs.Plan.{planRule, vouchRule}
+use Rattle.book.specs.Book.{follower, weight, rangeRule}
+use Rattle.book.specs.Legs.{legAt}
 
 -- an array by its indices
 abbrev pub at : List ℕ → ℕ → ℕ
@@ -84,6 +87,17 @@ pub record Sized (N : ℕ) (plan costs totals parents ranks : List ℕ) : Type 0
   pub totalled : N < length totals
   pub parented : N < length parents
   pub ranked : N < length ranks
+
+-- what the search begins from: a plan of N stops with weights that vouch for it over the table's legs, and N, which is followed
+-- by itself for the moment
+pub record Witnessed (k N : ℕ) (plan : List ℕ) (weights : List ℤ) (costs : List ℕ) : Type 0 where
+  pub few : N < 272
+  pub weighed : N ≤ length weights
+  pub new : follower plan N ≡ N
+  pub planned : planRule k N (follower plan) ≡ true
+  pub ranged : rangeRule N (weight weights) ≡ true
+  pub vouched : vouchRule k N (follower plan) (legAt costs) (weight weights) ≡ true
+  pub short : (p b : ℕ) → p ≤ N → b ≤ N → legAt costs p b ≤ 1000000
 
 -- a stop's total is its net cost and the leg to its follower
 pub record Totalled (N : ℕ) (f : ℕ → ℕ) (c : ℕ → ℕ → ℕ) (total : ℕ → ℕ) : Type 0 where

@@ -6,10 +6,9 @@ ghost use mathlib.Core.Path.{_≡_};
 ghost use Prim.Native.Nat.{ℕ, _+_, _-_, _*_, _<_, _≤_};
 ghost use lib.IntN.{pos, _-ℤ_};
 ghost use lib.ListN.{length};
-ghost use Rattle.workfunction.specs.Plan.{planRule, vouchRule};
-ghost use Rattle.book.specs.Book.{follower, weight, weightRule, rangeRule};
+ghost use Rattle.book.specs.Book.{follower, weight, weightRule};
 ghost use Rattle.book.specs.Legs.{legAt, Weighed};
-ghost use Rattle.book.specs.Search.{at, netBase, headOf, reach, Begun, Low, Picked, Relaxed, Ready, Sized, Searched};
+ghost use Rattle.book.specs.Search.{at, netBase, headOf, reach, Begun, Low, Picked, Relaxed, Ready, Sized, Witnessed, Searched};
 
 // The net cost of the new call, from which the others are counted, so that none is below 0.
 pub(crate) const BASE: u64 = 1_099_511_627_776;
@@ -160,7 +159,7 @@ pub(crate) fn search(
     parents: &mut [usize],
     ranks: &mut [usize],
 )
-    requires { ⌜ (new < 272) × ((new ≤ length (now weights)) × ((Sized new (now plan) (now costs) (now totals) (now parents) (now ranks)) × ((follower (now plan) new ≡ new) × ((planRule cranes new (follower (now plan)) ≡ true) × ((rangeRule new (weight (now weights)) ≡ true) × ((vouchRule cranes new (follower (now plan)) (legAt (now costs)) (weight (now weights)) ≡ true) × ((p b : ℕ) → p ≤ new → b ≤ new → legAt (now costs) p b ≤ 1000000))))))) ⌝ }
+    requires { ⌜ Sized new (now plan) (now costs) (now totals) (now parents) (now ranks) × Witnessed cranes new (now plan) (now weights) (now costs) ⌝ }
     ensures { λ _. ⌜ Searched cranes new (follower (now (plan .entry))) (legAt (now (costs .entry))) (at (now (totals .exit))) (at (now (parents .exit))) (at (now (ranks .exit))) ⌝ }
 {
     let mut heads = [0; Book::STOPS];

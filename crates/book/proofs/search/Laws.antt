@@ -77,15 +77,20 @@ pub record Held (k N : ℕ) (f : ℕ → ℕ) (c : ℕ → ℕ → ℕ) (i : ℕ
   pub attained : total p + c q (f q) ≡ total q + c p (f q)
 
 pub record Settling (k N : ℕ) (f : ℕ → ℕ) (c : ℕ → ℕ → ℕ) (head : ℕ → ℕ) (i : ℕ) (total parent rank : ℕ → ℕ) : Type 0 where
+  -- the new call is settled first, with the net cost netBase
   pub source : rank N ≡ 0
   pub new : total N ≡ netBase + c N N
+  -- a round takes a leg off a total at the most
   pub low : (p : ℕ) → p ≤ N → netBase ≤ total p + 1000000 * i
   pub high : (p : ℕ) → p ≤ N → total p ≤ netBase + 1000000
   pub ranks : (p : ℕ) → p < N → (rank p ≡ 272) ⊎ (rank p < i)
+  -- no way over a settled stop is better than what p has
   pub least : (p q : ℕ) → p < N → q ≤ N → rank q < i → (f q < k) ⊎ (p < f q) → total p + c q (f q) ≤ total q + c p (f q)
+  -- what p has is the way over its parent
   pub held : (p : ℕ) → p < N → Held k N f c i total rank p (parent p)
   -- no settled stop has a greater key than an open one
   pub order : (p v : ℕ) → p < N → v < N → rank p < i → rank v ≡ 272 → total p + head p ≤ total v + head v
+  -- the new call, the settled stops and the open ones are all
   pub count : i + sumBelow N (opened rank) ≡ N + 1
 
 module _ {k N : ℕ} {f : ℕ → ℕ} {c : ℕ → ℕ → ℕ} {head : ℕ → ℕ} (ready : Ready k N f c head) where

@@ -11,7 +11,7 @@ use Rattle.book.proofs.search.pick.Statement.{statement}
 use Rattle.book.proofs.search.pick.Tie as tie
 
 -- `best` is an open stop below p with the key `least`
-record Held (head total rank : ℕ → ℕ) (best least p : ℕ) : Type 0 where
+record Best (head total rank : ℕ → ℕ) (best least p : ℕ) : Type 0 where
   below : best < p
   unsettled : rank best ≡ 272
   key : least ≡ total best + head best
@@ -19,14 +19,14 @@ record Held (head total rank : ℕ → ℕ) (best least p : ℕ) : Type 0 where
 module _ (new : ℕ) (head total rank : ℕ → ℕ) where
   record Picking (best least p : ℕ) : Type 0 where
     most : p ≤ new
-    found : Held head total rank best least p ⊎ (least ≡ 9223372036854775808)
+    found : Best head total rank best least p ⊎ (least ≡ 9223372036854775808)
     lower : (v : ℕ) → v < p → rank v ≡ 272 → least ≤ total v + head v
 
   pick-begun : Picking new 9223372036854775808 0
   pick-begun = record { most = omega arith; found = inr refl; lower = λ v lt o. absurd (omega arith) }
 
   module _ {best least p : ℕ} (s : Picking best least p) (lt : p < new) where
-    later : Held head total rank best least p ⊎ (least ≡ 9223372036854775808) → Held head total rank best least (p + 1) ⊎ (least ≡ 9223372036854775808)
+    later : Best head total rank best least p ⊎ (least ≡ 9223372036854775808) → Best head total rank best least (p + 1) ⊎ (least ≡ 9223372036854775808)
     later (inl h) = inl (record { below = let l = h .below in omega arith; unsettled = h .unsettled; key = h .key })
     later (inr e) = inr e
 
@@ -52,7 +52,7 @@ module _ (new : ℕ) (head total rank : ℕ → ℕ) where
   pick-ended : {best least p : ℕ} → Picking best least p → Low new head total → new ≤ p → Picked new head total rank best
   pick-ended {best} {least} {p} s low le = go (s .found)
     where
-      go : Held head total rank best least p ⊎ (least ≡ 9223372036854775808) → Picked new head total rank best
+      go : Best head total rank best least p ⊎ (least ≡ 9223372036854775808) → Picked new head total rank best
       go (inl h) = inl (record {
         below = let l = h .below in let m = s .most in omega arith;
         unsettled = h .unsettled;

@@ -1,52 +1,48 @@
 -- `book::search::search` meets its contract: the heads of a plan whose weights vouch for it vouch too, and at first every stop
 -- takes the new call. Assumes nothing.
 use Prim.Native.Nat.{ℕ, _+_, _*_, _<_, _≤_}
-use mathlib.Core.Bool.{true}
 use mathlib.Core.List.{List}
 use mathlib.Core.Path.{_≡_, refl, _∙_}
 use borrow.Author.Needs.{needs}
 use lib.IntN.{ℤ}
-use lib.ListN.{length}
+use native.Mathlib.Nat.{le-of-lt}
 use native.Mathlib.Omega.{arith}
 use Rattle.base.proofs.Tests.{below-at}
-use Rattle.workfunction.specs.Plan.{planRule, vouchRule}
 use Rattle.workfunction.proofs.Plan.{plan-facts}
-use Rattle.book.specs.Book.{follower, weight, rangeRule}
+use Rattle.book.specs.Book.{follower, weight}
 use Rattle.book.specs.Legs.{legAt, Weighed}
-use Rattle.book.specs.Search.{at, headOf, Begun, Ready, Sized}
+use Rattle.book.specs.Search.{at, headOf, Begun, Ready, Sized, Witnessed}
 use Rattle.book.proofs.search.Heads.{head-high, heads-vouch}
 use Rattle.book.proofs.search.Rows.{lent, length-lent, lent-at}
 use Rattle.book.proofs.search.search.Statement.{statement}
 use Rattle.book.proofs.search.search.Tie as tie
 
--- what is known of the plan and its weights
-module _ (k : ℕ) (weights : List ℤ) {N : ℕ} {plan costs totals parents ranks : List ℕ} (most : N < 272)
-    (weighed : N ≤ length weights) (sized : Sized N plan costs totals parents ranks)
-    (planned : planRule k N (follower plan) ≡ true) (ranged : rangeRule N (weight weights) ≡ true) where
+module _ {k N : ℕ} {plan : List ℕ} {weights : List ℤ} {costs : List ℕ} (w : Witnessed k N plan weights costs) where
   below : (p : ℕ) → p < N → follower plan p < N
-  below = plan-facts k N (follower plan) planned .below
+  below = plan-facts k N (follower plan) (w .planned) .below
 
-  in-range : Weighed N plan weights costs
-  in-range = record {
-    followed = record { most = omega arith; planned = omega arith; weighed = weighed; costed = sized .costed; below = below };
-    ranged = below-at _ N ranged;
+  in-range : {totals parents ranks : List ℕ} → Sized N plan costs totals parents ranks → Weighed N plan weights costs
+  in-range sized = record {
+    followed = record { most = le-of-lt (w .few); planned = le-of-lt (sized .planned); weighed = w .weighed; costed = sized .costed; below = below };
+    ranged = below-at _ N (w .ranged);
   }
 
-  heads-ready : (heads : List ℕ) → follower plan N ≡ N → vouchRule k N (follower plan) (legAt costs) (weight weights) ≡ true
-      → ((p b : ℕ) → p ≤ N → b ≤ N → legAt costs p b ≤ 1000000)
+  leg : (p b : ℕ) → p < N → b < N → legAt costs p b ≤ 1000000
+  leg p b lt less = w .short p b (le-of-lt lt) (le-of-lt less)
+
+  heads-ready : (heads : List ℕ)
       → ((p : ℕ) → p < N → at heads p ≡ headOf (weight weights (follower plan p)) (legAt costs p (follower plan p)))
       → Ready k N (follower plan) (legAt costs) (at heads)
-  heads-ready heads new vouched short filled =
-      let leg : (p b : ℕ) → p < N → b < N → legAt costs p b ≤ 1000000 = λ p b lt less. short p b (omega arith) (omega arith) in
+  heads-ready heads filled =
       record {
-        most = most;
+        most = w .few;
         below = below;
-        new = new;
-        cost = short;
-        high = λ p lt. rw (filled p lt) (head-high _ _ (below-at _ N ranged _ (below p lt)) (leg p _ lt (below p lt)));
+        new = w .new;
+        cost = w .short;
+        high = λ p lt. rw (filled p lt) (head-high _ _ (below-at _ N (w .ranged) _ (below p lt)) (leg p _ lt (below p lt)));
         vouched = λ p q lt less may.
             rw (filled p lt, filled q less)
-            (heads-vouch k N (follower plan) (legAt costs) (weight weights) vouched (below-at _ N ranged) below leg p q lt less may);
+            (heads-vouch k N (follower plan) (legAt costs) (weight weights) (w .vouched) (below-at _ N (w .ranged)) below leg p q lt less may);
       }
 
 -- the row lent to `begin` holds the legs to the new call
@@ -64,13 +60,8 @@ slice-aggregate-fill-heads c = search needs
 
 fill-heads-requires : tie.Need-fill-heads-requires
 fill-heads-requires c κs =
-    let p = c .before .before .before .before .before .before .pre in (
-      omega arith,
-      (
-        in-range _ _ (p .0) (p .1 .0) (p .1 .1 .0) (p .1 .1 .1 .1 .0) (p .1 .1 .1 .1 .1 .0),
-        (λ q b lt less. p .1 .1 .1 .1 .1 .1 .1 q b (omega arith) (omega arith)),
-      ),
-    )
+    let p = c .before .before .before .before .before .before .pre in
+    (le-of-lt (p .1 .few), (in-range (p .1) (p .0), leg (p .1)))
 
 mul-row : tie.Need-mul-row
 mul-row c = search needs
@@ -96,11 +87,11 @@ part-begin-end c = search needs
 begin-requires : tie.Need-begin-requires
 begin-requires c κs =
     let a = c .before .before .before .before .before .before .before .before .before .before .before .before in
-    let p = a .pre in
-    let s = p .1 .1 .0 in
+    let s = a .pre .0 in
+    let few = a .pre .1 .few in
     let n = a .args .new in
     let long = length-lent (a .args .costs .now) n (272 * n + n + 1) (omega arith) in
-    (p .0, (omega arith, (s .totalled, (s .parented, s .ranked))))
+    (few, (omega arith, (s .totalled, (s .parented, s .ranked))))
 
 slice-aggregate-rounds : tie.Need-slice-aggregate-rounds
 slice-aggregate-rounds c = search needs
@@ -110,13 +101,13 @@ rounds-requires c κs =
     let b = c .before .before .before .before .before .before .before .before .before .before in
     let f = b .before .before .before .before .before .before in
     let a = f .before .before .before .before .before .before .before in
-    let p = a .pre in
-    let s = p .1 .1 .0 in (
+    let s = a .pre .0 in
+    let few = a .pre .1 .few in (
       search needs,
       (
         record { planned = s .planned; costed = s .costed; totalled = search needs; parented = search needs; ranked = search needs },
         (
-          heads-ready _ (a .args .weights .now) (p .0) (p .1 .0) s (p .1 .1 .1 .1 .0) (p .1 .1 .1 .1 .1 .0) (f .fill-heads .last .1 .1 .1 .1 .0) (p .1 .1 .1 .0) (p .1 .1 .1 .1 .1 .1 .0) (p .1 .1 .1 .1 .1 .1 .1) (f .fill-heads .ensures),
+          heads-ready (a .pre .1) (f .fill-heads .last .1 .1 .1 .1 .0) (f .fill-heads .ensures),
           begun-row (a .args .costs .now) (a .args .new) _ refl (b .begin .ensures),
         ),
       ),
