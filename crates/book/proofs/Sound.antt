@@ -3,32 +3,28 @@
 use Prim.Native.Nat.{ℕ, _<_, _≤_}
 use mathlib.Core.Bool.{true, and-eq-true-iff}
 use mathlib.Core.List.{List, List·Memᴰ}
-use mathlib.Core.Path.{_≡_, refl, subst}
-use lib.ListN.{length, getD, take}
+use mathlib.Core.Path.{_≡_, refl}
+use lib.ListN.{length}
 use lib.Seq.{length-take-le}
-use Rattle.base.specs.Lists.{upTo}
 use Rattle.base.specs.Metric.{Metric}
-use Rattle.base.proofs.Lists.{take-upTo}
 use Rattle.base.proofs.Numbers.{unless-zero, then-zero, first-of}
 use Rattle.road.specs.Table.{legsRule, triangleRule}
 use Rattle.road.proofs.Table.{tested-metric}
 use Rattle.dayfile.specs.Day.{stopsRule, countsRefusal}
-use Rattle.dayfile.proofs.Limits.{Counted, counted, counts-accepted, stops-at}
+use Rattle.dayfile.proofs.Limits.{Counted, counted, counts-accepted, stop-below}
 use Rattle.workfunction.specs.Movement.{Instance, work}
 use Rattle.workfunction.specs.Plan.{planRule, vouchRule, planCost, stops, legCost}
 use Rattle.workfunction.specs.Position.{Position}
-use Rattle.workfunction.proofs.Lists.{in-upTo}
+use Rattle.workfunction.proofs.Sums.{slot-of}
 use Rattle.workfunction.proofs.Witness.{witness-work}
 use Rattle.book.specs.declared.Book.{Book}
 use Rattle.book.specs.Book.{startsOf, standsOf, requestsOf, stopsOf, follower, weight, rangeRule, bookRefusal}
 
--- the lengths that a book's arrays have by their types
+-- the lengths that a book's arrays of places have by their types
 pub record Arrays (book : Book) : Type 0 where
   pub starts : length (book .starts) ≡ 16
   pub stands : length (book .stands) ≡ 16
   pub requests : length (book .requests) ≡ 256
-  pub plan : length (book .plan) ≡ 272
-  pub weights : length (book .weights) ≡ 272
 
 -- the counts are within the arrays
 pub record Fits (book : Book) : Type 0 where
@@ -57,11 +53,8 @@ module _ {book : Book} (fits : Fits book) where
   stops-long = rw (starts-long, requests-long)
 
 -- places that keep their rule
-placed : (n k : ℕ) (l : List ℕ) → k ≤ length l → stopsRule n (take k l) ≡ true → {r : ℕ} → List·Memᴰ r (take k l) → r < n
-placed n k l fits rule {r} m =
-    let same : take k l ≡ upTo k (λ j. getD l j 0) = take-upTo k l 0 fits in
-    let at = in-upTo k (λ j. getD l j 0) (subst (λ (s : List ℕ). List·Memᴰ r s) same m) in
-    rw (at .2) (stops-at n k (λ j. getD l j 0) (subst (λ (s : List ℕ). stopsRule n s ≡ true) same rule) (at .0) (at .1))
+placed : (n : ℕ) (l : List ℕ) → stopsRule n l ≡ true → {r : ℕ} → List·Memᴰ r l → r < n
+placed n l rule m = let at = slot-of m in rw (← at .2) (stop-below n l rule (at .0) (at .1))
 
 -- "A book is sound if none of 3 to 10 .. applies to it and its table": by its rules
 pub record Sound (book : Book) (n : ℕ) (d : ℕ → ℕ → ℕ) : Type 0 where
@@ -116,14 +109,14 @@ module _ {book : Book} {n : ℕ} {d : ℕ → ℕ → ℕ} where
     pub sound-instance : Instance n (startsOf book) (requestsOf book)
     sound-instance = record {
       crane = rw (starts-long sound-fits) (s .counts .crane);
-      started = record { cranes = refl; placed = placed n (book .cranes) (book .starts) (sound-fits .starts) (s .starts) };
-      called = placed n (book .calls) (book .requests) (sound-fits .requests) (s .requests);
+      started = record { cranes = refl; placed = placed n (startsOf book) (s .starts) };
+      called = placed n (requestsOf book) (s .requests);
     }
 
     pub sound-standing : Position n (length (startsOf book)) (standsOf book)
     sound-standing = record {
       cranes = rw (starts-long sound-fits) (stands-long sound-fits);
-      placed = placed n (book .cranes) (book .stands) (sound-fits .stands) (s .stands);
+      placed = placed n (standsOf book) (s .stands);
     }
 
 -- a sound book's plan costs w of its stands

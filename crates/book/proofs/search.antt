@@ -1,3 +1,3 @@
 pub mod Laws
 pub mod Heads
-pub mod Rows
+pub mod Lent

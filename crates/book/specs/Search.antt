@@ -67,11 +67,11 @@ pub record Bettered (limit net from : ℕ) (row total total' parent' : ℕ → �
 pub record Relaxed (limit net from : ℕ) (row total parent total' parent' : ℕ → ℕ) : Type 0 where
   pub each : (p : ℕ) → Kept limit net row total parent total' parent' p ⊎ Bettered limit net from row total total' parent' p
 
--- every key is below the bound from which the least is sought
+-- every key is below 2^63, from which the least is sought
 pub record Low (N : ℕ) (head total : ℕ → ℕ) : Type 0 where
   pub low : (p : ℕ) → p < N → total p + head p < 9223372036854775808
 
--- what the rounds stand on: a plan of N stops, leg costs within the limit of a leg, and heads that vouch
+-- what the rounds stand on: a plan of N stops, leg costs within the limit of a leg, and heads that vouch, up to 2^42
 pub record Ready (k N : ℕ) (f : ℕ → ℕ) (c : ℕ → ℕ → ℕ) (head : ℕ → ℕ) : Type 0 where
   pub most : N < 272
   pub below : (p : ℕ) → p < N → f p < N

@@ -82,8 +82,8 @@ fn limits() -> u64
         + gives(far_stand, 5)
 }
 
-// Plans: one that names a crane twice, one that leaves the followers, one that goes back to an earlier call, and the same
-// faults past the counts, where they are ignored.
+// Plans: one that names a crane twice, one with a follower out of range, one that goes back to an earlier call, and one with
+// entries past the counts, which are ignored.
 fn plans() -> u64
     ensures { λ r. ⌜ r ≤ 4 ⌝ }
 {

@@ -2,6 +2,7 @@
 -- Assumes nothing.
 use Prim.Native.Nat.{ℕ, _<_, _≤_}
 use mathlib.Core.Bool.{true}
+use mathlib.Core.List.{List}
 use mathlib.Core.Path.{_≡_}
 use borrow.Author.Tests.{leb-true, le-leb, ltb-true, lt-ltb}
 use lib.Dec.{ltb}
@@ -15,12 +16,14 @@ use Rattle.dayfile.specs.declared.Day.{Day}
 use Rattle.dayfile.specs.Day.{cranesRule, callsRule, stopsRule, countsRefusal, startsOf, requestsOf, dayRefusal, stop, dayRecords}
 use Rattle.dayfile.proofs.Indices.{laid}
 
--- stops by a rule are places of the table
+-- stops that are tested are places of the table
+pub stop-below : (n : ℕ) (stops : List ℕ) → stopsRule n stops ≡ true → (i : ℕ) → i < length stops → getD stops i 0 < n
+stop-below n stops h i lt = ltb-true (getD stops i 0) n (below-at (λ j. ltb (getD stops j 0) n) (length stops) h i lt)
+
+-- stops by a rule
 module _ (n k : ℕ) (a : ℕ → ℕ) where
   pub stops-at : stopsRule n (upTo k a) ≡ true → (j : ℕ) → j < k → a j < n
-  stops-at h j p =
-      let here = below-at (λ i. ltb (getD (upTo k a) i 0) n) (length (upTo k a)) h j (rw length-upTo p) in
-      rw (getD-upTo k a j 0 p) at (ltb-true (getD (upTo k a) j 0) n here)
+  stops-at h j p = rw (getD-upTo k a j 0 p) at (stop-below n (upTo k a) h j (rw length-upTo p))
 
   pub stops-hold : ((j : ℕ) → j < k → a j < n) → stopsRule n (upTo k a) ≡ true
   stops-hold h = below-all _ _ (λ j p. let q : j < k = rw length-upTo at p in rw (getD-upTo k a j 0 q) (lt-ltb (a j) n (h j q)))

@@ -5,8 +5,6 @@ use mathlib.Core.Bool.{true}
 use mathlib.Core.List.{List, _++_}
 use mathlib.Core.Logic.{⊎-elim}
 use mathlib.Core.Path.{_≡_, refl, sym, ap, subst, _∙_}
-use borrow.Author.Tests.{ltb-true}
-use lib.Dec.{ltb}
 use lib.ListN.{length, getD, take, drop, length-append, length-drop, List·getD-append, List·getD-eq-default}
 use lib.Seq.{length-take-le, getD-append-add, getD-take}
 use native.Mathlib.Decide.{decLt}
@@ -15,8 +13,8 @@ use native.Mathlib.Numerals.{add-one}
 use native.Mathlib.Omega.{arith}
 use Rattle.base.specs.Lists.{upTo}
 use Rattle.base.proofs.Lists.{length-upTo, getD-upTo}
-use Rattle.base.proofs.Tests.{below-at}
 use Rattle.dayfile.specs.Day.{stopsRule}
+use Rattle.dayfile.proofs.Limits.{stop-below}
 use Rattle.workfunction.specs.Plan.{place, legCost}
 use Rattle.workfunction.proofs.Stops.{place-stand}
 use Rattle.book.specs.Legs.{legAt, Rows}
@@ -89,7 +87,7 @@ module _ {n : ℕ} (some : 0 < n) where
   entry-below l rule i = either (decLt i (length l))
     where
       either : Dec (i < length l) → getD l i 0 < n
-      either (yes h) = ltb-true (getD l i 0) n (below-at (λ j. ltb (getD l j 0) n) (length l) rule i h)
+      either (yes h) = stop-below n l rule i h
       either (no h) = rw (List·getD-eq-default l 0 {n = i} (omega arith)) some
 
   place-below : (first calls : List ℕ) → stopsRule n first ≡ true → stopsRule n calls ≡ true → (p : ℕ) → place first calls p < n

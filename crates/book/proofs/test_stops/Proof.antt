@@ -7,21 +7,12 @@ use Rattle.base.specs.Numbers.{_then_}
 use Rattle.base.proofs.Numbers.{goes-on, handed-up}
 use Rattle.dayfile.specs.Day.{stopsRefusal}
 use Rattle.book.specs.Book.{startsOf}
-use Rattle.book.proofs.Sound.{Arrays, Fits, fit, starts-long, stands-long, requests-long}
+use Rattle.book.proofs.Sound.{Fits, fit, starts-long, stands-long, requests-long}
 use Rattle.book.proofs.test_stops.Statement.{statement}
 use Rattle.book.proofs.test_stops.Tie as tie
 
-arrays : (c : tie.Start) → Arrays (c .args .book)
-arrays c = record {
-  starts = search needs;
-  stands = search needs;
-  requests = search needs;
-  plan = search needs;
-  weights = search needs;
-}
-
 fits : (c : tie.Start) → Fits (c .args .book)
-fits c = fit (arrays c) (c .pre .0) (c .pre .1)
+fits c = fit (record { starts = search needs; stands = search needs; requests = search needs }) (c .pre .0) (c .pre .1)
 
 -- where the test of the starts accepted, the next decides
 starts : (c : tie.After-enum-told) (t n : ℕ) → n ≡ t

@@ -5,6 +5,7 @@ use mathlib.Core.Bool.{true}
 use mathlib.Core.List.{List}
 use mathlib.Core.Path.{_≡_, sym, _∙_}
 use borrow.Author.Needs.{needs}
+use lib.ListN.{length}
 use native.Mathlib.Omega.{arith}
 use Rattle.road.specs.Table.{distance, entry}
 use Rattle.workfunction.specs.Plan.{planRule, legCost}
@@ -12,7 +13,7 @@ use Rattle.workfunction.proofs.Plan.{plan-facts}
 use Rattle.book.specs.declared.Book.{Book}
 use Rattle.book.specs.Book.{startsOf, standsOf, requestsOf, stopsOf, follower, weightsRefusal}
 use Rattle.book.specs.Legs.{legAt, LegTable}
-use Rattle.book.proofs.Sound.{Arrays, Fits, fit, starts-long, stands-long, requests-long, stops-long}
+use Rattle.book.proofs.Sound.{Fits, fit, starts-long, stands-long, requests-long, stops-long}
 use Rattle.book.proofs.weights.Laws.{over-legs}
 use Rattle.book.proofs.test_weights.Statement.{statement}
 use Rattle.book.proofs.test_weights.Tie as tie
@@ -27,17 +28,8 @@ by-table book d costs fits planned table =
     over-legs (book .cranes) (stopsOf book) (book .plan) (book .weights) (legAt costs) _ planned
     (λ p b h l. table .leg p b (rw (stops-long fits) h) (rw (stops-long fits) l))
 
-arrays : (c : tie.Start) → Arrays (c .args .book)
-arrays c = record {
-  starts = search needs;
-  stands = search needs;
-  requests = search needs;
-  plan = search needs;
-  weights = search needs;
-}
-
 fits : (c : tie.Start) → Fits (c .args .book)
-fits c = fit (arrays c) (c .pre .0) (c .pre .1 .0)
+fits c = fit (record { starts = search needs; stands = search needs; requests = search needs }) (c .pre .0) (c .pre .1 .0)
 
 array-share-prefix-starts : tie.Need-array-share-prefix-starts
 array-share-prefix-starts c = fits (c .before .before .before .before .before) .starts
@@ -82,8 +74,8 @@ test-requires c κs =
     let s = c .before .before .before .before .before .before .before .before .before .before .before .before .before .before in
     record {
       most = omega (arith, s .pre);
-      planned = rw (arrays s .plan) (omega (arith, s .pre));
-      weighed = rw (arrays s .weights) (omega (arith, s .pre));
+      planned = let long : length (s .args .book .plan) ≡ 272 = search needs in omega (arith, s .pre);
+      weighed = let long : length (s .args .book .weights) ≡ 272 = search needs in omega (arith, s .pre);
       costed = search needs;
       below = plan-facts _ _ _ (s .pre .1 .1) .below;
     }

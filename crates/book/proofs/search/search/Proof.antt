@@ -13,7 +13,7 @@ use Rattle.book.specs.Book.{follower, weight}
 use Rattle.book.specs.Legs.{legAt, Weighed}
 use Rattle.book.specs.Search.{at, headOf, Begun, Ready, Sized, Witnessed}
 use Rattle.book.proofs.search.Heads.{head-high, heads-vouch}
-use Rattle.book.proofs.search.Rows.{lent, length-lent, lent-at}
+use Rattle.book.proofs.search.Lent.{lent, length-lent, lent-at}
 use Rattle.book.proofs.search.search.Statement.{statement}
 use Rattle.book.proofs.search.search.Tie as tie
 

@@ -12,7 +12,7 @@ use Rattle.book.specs.Book.{follower}
 use Rattle.book.specs.Legs.{legAt}
 use Rattle.book.specs.Search.{at, Kept, Bettered, Relaxed}
 use Rattle.book.proofs.search.Laws.{reach-most}
-use Rattle.book.proofs.search.Rows.{lent, length-lent, lent-at}
+use Rattle.book.proofs.search.Lent.{lent, length-lent, lent-at}
 use Rattle.book.proofs.search.settle.Statement.{statement}
 use Rattle.book.proofs.search.settle.Tie as tie
 
