@@ -4,7 +4,7 @@ use Prim.Native.Nat.{ℕ, zero, suc, _+_, _-_, _<_, _≤_, zero-le, suc-le-suc}
 use mathlib.Core.List.{List, [], _∷_, _++_, map, append-assoc}
 use mathlib.Core.Path.{_≡_, refl, sym, ap, subst, _∙_}
 use lib.ListN.{length, getD, set, take, drop, replicate, length-replicate, length-set, length-append, length-drop, take-append-drop, List·getD-append}
-use lib.Seq.{set-at, drop-cons, take-at, drop-at, drop-drop, length-take-le, append-snoc, getD-take, getD-drop, ext-getD}
+use lib.Seq.{set-at, drop-cons, take-at, drop-at, drop-drop, length-take-le, append-snoc, getD-take, getD-drop, getD-append-add, ext-getD}
 use native.Mathlib.Nat.{add-zero, zero-add, add-assoc, not-suc-le-zero, le-of-suc-le-suc, le-antisymm, sub-zero, zero-sub, suc-sub-suc}
 use native.Mathlib.Numerals.{add-one}
 use native.Mathlib.Omega.{arith}
@@ -53,6 +53,21 @@ module _ {A : Type 0} where
 
   pub take-padded : (m n : ℕ) (f : ℕ → A) (z : A) → take n (padded m n f z) ≡ upTo n f
   take-padded m n f z = take-at (upTo n f) _ n (length-upTo n f)
+
+  pub replicate-at : (n i : ℕ) (z : A) → getD (replicate n z) i z ≡ z
+  replicate-at zero i z = refl
+  replicate-at (suc n) zero z = refl
+  replicate-at (suc n) (suc i) z = replicate-at n i z
+
+  -- and past it
+  pub getD-padded-past : (m n : ℕ) (f : ℕ → A) (z : A) (i : ℕ) → n ≤ i → getD (padded m n f z) i z ≡ z
+  getD-padded-past m n f z i h =
+      let on : i ≡ length (upTo n f) + (i - n) = rw (length-upTo n f) (omega arith) in
+      ap (λ (j : ℕ). getD (padded m n f z) j z) on ∙ getD-append-add (upTo n f) _ (i - n) z ∙ replicate-at (m - n) (i - n) z
+
+  -- an array keeps the entries within its count
+  pub take-kept : (m n : ℕ) (l : List A) (z : A) → n ≤ length l → take n (padded m n (λ j. getD l j z) z) ≡ take n l
+  take-kept m n l z h = take-padded m n _ z ∙ sym (take-upTo n l z h)
 
   -- a list's elements, each by a rule, are the rule at each index
   pub map-by-index : {B : Type 0} (g : B → A) (l : List B) (z : B) → map g l ≡ upTo (length l) (λ i. g (getD l i z))

@@ -21,6 +21,14 @@ by-order u v {P} lower same higher = pick (decLt u v) (ℕ-discrete u v)
     pick (no n) (yes e) = same e
     pick (no n) (no m) = higher (omega arith)
 
+-- what holds below i and of i holds below the next
+pub one-more : (P : ℕ → Type 0) (i : ℕ) → P i → ((t : ℕ) → t < i → P t) → (t : ℕ) → t < i + 1 → P t
+one-more P i last below t lt = pick (ℕ-discrete t i)
+  where
+    pick : Dec (t ≡ i) → P t
+    pick (yes e) = subst P (sym e) last
+    pick (no n) = below t (omega arith)
+
 module _ (lo hi n : ℕ) where
   pub within-yes : lo ≤ n → n ≤ hi → within lo hi n ≡ true
   unfolding within

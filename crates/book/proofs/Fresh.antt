@@ -1,5 +1,5 @@
 -- The fresh book of an accepted day is sound. Assumes nothing.
-use Prim.Native.Nat.{ℕ, _+_, _<_, zero-le}
+use Prim.Native.Nat.{ℕ, _+_, _<_, _≤_, zero-le}
 use mathlib.Core.Bool.{true, cond}
 use mathlib.Core.List.{List, []}
 use mathlib.Core.Path.{_≡_, sym, _∙_}
@@ -21,7 +21,7 @@ use Rattle.dayfile.proofs.Limits.{Tested, day-tested, counts-accepted, stops-at
 use Rattle.workfunction.specs.Plan.{mayFollow, follows, followersRule, onceRule, planRule, slackRule, vouchAt, vouchRule, place, legCost}
 use Rattle.workfunction.proofs.Stops.{place-stand}
 use Rattle.workfunction.proofs.Sums.{sum-same, sum-one}
-use Rattle.book.specs.Book.{weightRule, rangeRule, bookRefusal, freshBook}
+use Rattle.book.specs.Book.{follower, weight, weightRule, rangeRule, bookRefusal, freshBook}
 
 eqb-both-ways : (a b : ℕ) → eqb a b ≡ eqb b a
 eqb-both-ways a b = either (ℕ-discrete a b)
@@ -57,6 +57,25 @@ module _ (k : ℕ) (y : ℕ → ℤ) (none : (b : ℕ) → b < k → y b ≡ pos
   none-vouch f c own self =
       below-all _ k (λ p h. below-all _ k (λ b l. rw (lt-ltb b k l, own p h, none p h, none b l, self p h) (le-leb 0 (c p b + 0) zero-le)))
 
+-- the plan and the weights of a fresh book of k cranes
+module _ (k : ℕ) where
+  own : (p : ℕ) → p < k → follower (padded 272 k (λ j. j) 0) p ≡ p
+  own = getD-padded 272 k (λ j. j) 0 0
+
+  pub fresh-plan : planRule k k (follower (padded 272 k (λ j. j) 0)) ≡ true
+  fresh-plan = own-plan k _ own
+
+  module _ (most : k ≤ 272) where
+    none : (b : ℕ) → b < k → weight (replicate 272 (pos 0)) b ≡ pos 0
+    none b lt = getD-replicate 272 b (pos 0) (pos 0) (omega arith)
+
+    pub fresh-range : rangeRule k (weight (replicate 272 (pos 0))) ≡ true
+    fresh-range = none-ranged k _ none
+
+    pub fresh-vouch : (c : ℕ → ℕ → ℕ) → ((p : ℕ) → p < k → c p p ≡ 0)
+        → vouchRule k k (follower (padded 272 k (λ j. j) 0)) c (weight (replicate 272 (pos 0))) ≡ true
+    fresh-vouch c self = none-vouch k _ none _ c own self
+
 module _ (day : Day) (d : ℕ → ℕ → ℕ) (h : dayRefusal day d ≡ 0) (sixteen : length (day .starts) ≡ 16) where
   abbrev k : ℕ
   k = day .cranes
@@ -85,15 +104,12 @@ module _ (day : Day) (d : ℕ → ℕ → ℕ) (h : dayRefusal day d ≡ 0) (six
       let at : place starts [] p ≡ start p = place-stand starts [] p (rw length-upTo lt) ∙ getD-upTo k start p 0 lt in
       rw at (tested-metric (day .places) d (tests .legs) (tests .triangles) .self (start p) (stops-at (day .places) k start started p lt))
 
-  own : (p : ℕ) → p < k → getD (padded 272 k (λ j. j) 0) p 0 ≡ p
-  own p lt = getD-padded 272 k (λ j. j) 0 0 p lt
-
-  none : (b : ℕ) → b < k → getD (replicate 272 (pos 0)) b (pos 0) ≡ pos 0
-  none b lt = getD-replicate 272 b (pos 0) (pos 0) (omega (arith, tests .counts))
+  most : k ≤ 272
+  most = omega (arith, tests .counts)
 
   -- "A fresh book .. is sound."
   pub fresh-sound : bookRefusal (freshBook (day .cranes) (day .starts)) (day .places) d ≡ 0
   unfolding bookRefusal freshBook allBelow
   fresh-sound =
-      rw (counts, tests .legs, take-padded 16 k start 0, started, tests .triangles, add-zero k, own-plan k _ own, none-ranged k _ none)
-      (rw (none-vouch k _ none _ _ own no-way))
+      rw (counts, tests .legs, take-padded 16 k start 0, started, tests .triangles, add-zero k, fresh-plan k, fresh-range k most)
+      (rw (fresh-vouch k most _ no-way))

@@ -20,7 +20,7 @@ same-tests zero s' t t' e same = rw (← e) (same refl)
 same-tests (suc s) s' t t' e same = rw (← e)
 
 -- followers that agree below n with others
-same-plan : (k n : ℕ) (f g : ℕ → ℕ) → ((p : ℕ) → p < n → f p ≡ g p) → planRule k n f ≡ planRule k n g
+pub same-plan : (k n : ℕ) (f g : ℕ → ℕ) → ((p : ℕ) → p < n → f p ≡ g p) → planRule k n f ≡ planRule k n g
 unfolding planRule followersRule onceRule follows
 same-plan k n f g same =
     let followers : followersRule k n f ≡ followersRule k n g = below-same _ _ n (λ p h. rw (same p h)) in

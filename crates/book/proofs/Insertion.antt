@@ -4,24 +4,28 @@
 use Prim.Native.Nat.{ℕ, _+_, _<_, _≤_}
 use mathlib.Core.Bool.{true}
 use mathlib.Core.List.{List, [], _∷_, _++_}
-use mathlib.Core.Path.{_≡_, _∙_}
+use mathlib.Core.Path.{_≡_, ap, _∙_}
 use lib.IntN.{ℤ, pos, _-ℤ_}
-use lib.ListN.{length}
+use lib.ListN.{length, getD}
 use native.Mathlib.Decide.{ℕ-discrete}
-use native.Mathlib.Nat.{le-of-lt}
+use native.Mathlib.Nat.{le-refl, le-of-lt}
 use native.Mathlib.Omega.{arith}
 use Rattle.base.specs.Metric.{Metric}
 use Rattle.base.proofs.Signed.{plus, minus, difference-within, neg-difference}
-use Rattle.base.proofs.Tests.{below-all}
-use Rattle.workfunction.specs.Choice.{moved}
+use Rattle.base.proofs.Tests.{below-at, below-all}
+use Rattle.workfunction.specs.Choice.{moved, drive, moveSum, choice}
 use Rattle.workfunction.specs.Movement.{Instance, work}
-use Rattle.workfunction.specs.NetCost.{NetCosts, Flipped}
+use Rattle.workfunction.specs.NetCost.{NetCosts}
 use Rattle.workfunction.specs.Plan.{planRule, vouchRule, planCost, stops, legCost}
 use Rattle.workfunction.specs.Position.{Position}
-use Rattle.workfunction.proofs.NetCost.{follower-on, whole, by-stops, net-most, net-least, net-work, flipped-plan, flipped-rule}
-use Rattle.workfunction.proofs.Plan.{Plan, plan-rule, stop-before, stop-only}
+use Rattle.workfunction.proofs.Choice.{preferred-below, preferred-sum, preferred-same}
+use Rattle.workfunction.proofs.NetCost.{follower-on, whole, by-stops, net-most, net-least, net-work, flipped-plan, flipped-rule, staying-rule}
+use Rattle.workfunction.proofs.Plan.{Plan, plan-rule, stop-only}
+use Rattle.workfunction.proofs.Stops.{place-last, place-stand}
+use Rattle.workfunction.proofs.Sums.{entry-in}
 use Rattle.book.specs.Book.{weightRule, rangeRule}
-use Rattle.book.specs.Search.{netBase, netOf, Searched, Matched, Reweighed}
+use Rattle.book.specs.Insertion.{Inserted}
+use Rattle.book.specs.Search.{netBase, netOf, Matched}
 use Rattle.book.proofs.weights.Laws.{in-range}
 
 pub matched-plan : {k N : ℕ} {f : ℕ → ℕ} → Plan k N f → f N ≡ N → Matched N f
@@ -31,49 +35,86 @@ matched-plan plan self =
       only = λ p q h hq e. stop-only (whole plan self) p q (omega arith) (omega arith) e;
     }
 
--- ---- the new weights
+-- ---- any ends
 
-module _ {k N : ℕ} {f : ℕ → ℕ} {c : ℕ → ℕ → ℕ} {total parent rank : ℕ → ℕ} (plan : Plan k N f) (self : f N ≡ N)
-    (searched : Searched k N f c total parent rank) {s : ℕ} {old y : ℕ → ℤ} (new : Reweighed N s f (netOf f c total) old y) where
+module _ {k N : ℕ} {f : ℕ → ℕ} {c : ℕ → ℕ → ℕ} {s : ℕ} {g : ℕ → ℕ} {old y : ℕ → ℤ} (some : 0 < k) (plan : Plan k N f) (self : f N ≡ N)
+    (taken : Inserted k N f c s g old y) where
+  -- the end that follows the new call
+  pub inserted-end : s < k
+  inserted-end = rw (taken .chosen) (preferred-below _ _ k some)
+
+  pub inserted-plan : planRule k (N + 1) g ≡ true
+  inserted-plan =
+      plan-rule (flipped-plan plan self (taken .searched .nets) (taken .freed .stop s inserted-end) (rw (taken .freed .follows s inserted-end) inserted-end)
+      (taken .flipped))
+
   -- the base less a net cost
-  weighed : (q : ℕ) → q ≤ N → (f q ≡ s → ⊥) → y (f q) ≡ pos netBase -ℤ pos (netOf f c total q)
-  weighed q h away = new .others q h away ∙ neg-difference (pos (netOf f c total q)) (pos netBase)
+  weighed : (q : ℕ) → q ≤ N → y (f q) ≡ pos netBase -ℤ pos (netOf f c (taken .total) q)
+  weighed q h = taken .reweighed .renewed q h ∙ neg-difference (pos (netOf f c (taken .total) q)) (pos netBase)
 
   module _ (few : N < 272) (short : (p b : ℕ) → p ≤ N → b ≤ N → c p b ≤ 1000000) where
     -- whatever the old weights were
-    pub next-within : (b : ℕ) → b ≤ N → (plus (y b) ≤ 272000000) × (minus (y b) ≤ 1000000)
-    unfolding plus minus
-    next-within b h = by-stops plan self Near (λ q on. each q on (ℕ-discrete (f q) s)) b (omega arith)
+    pub inserted-within : (b : ℕ) → b ≤ N → (plus (y b) ≤ 272000000) × (minus (y b) ≤ 1000000)
+    inserted-within b h = by-stops plan self (λ b. (plus (y b) ≤ 272000000) × (minus (y b) ≤ 1000000)) each b (omega arith)
       where
-        Near : ℕ → Type 0
-        Near b = (plus (y b) ≤ 272000000) × (minus (y b) ≤ 1000000)
+        each : (q : ℕ) → q ≤ N → (plus (y (f q)) ≤ 272000000) × (minus (y (f q)) ≤ 1000000)
+        each q on =
+            let least = net-least plan self (taken .searched .nets) 1000000 short q on in
+            let most = net-most plan self (taken .searched .nets) 1000000 short q on in
+            rw (weighed q on) (difference-within netBase (netOf f c (taken .total) q) 272000000 1000000 (omega arith) (omega arith))
 
-        each : (q : ℕ) → q ≤ N → Dec (f q ≡ s) → Near (f q)
-        each q on (yes e) = rw (e, new .moved) (omega arith, omega arith)
-        each q on (no away) =
-            let least = net-least plan self (searched .nets) 1000000 short q on in
-            let most = net-most plan self (searched .nets) 1000000 short q on in
-            rw (weighed q on away) (difference-within netBase (netOf f c total q) 272000000 1000000 (omega arith) (omega arith))
-
-    pub next-range : rangeRule (N + 1) y ≡ true
-    next-range = below-all _ (N + 1) ranged
+    pub inserted-range : rangeRule (N + 1) y ≡ true
+    inserted-range = below-all _ (N + 1) ranged
       where
         ranged : (b : ℕ) → b < N + 1 → weightRule (y b) ≡ true
         ranged b h =
-            let near = next-within b (omega arith) in
+            let near = inserted-within b (omega arith) in
             let high = near .0 in
             let low = near .1 in
             in-range (y b) (omega arith) (omega arith)
 
--- ---- a call taken in
+  -- the end is of the least net cost and way from N together
+  least-end : (q : ℕ) → q ≤ N → f q < k
+      → netOf f c (taken .total) (taken .before s) + c N (f (taken .before s)) ≤ netOf f c (taken .total) q + c N (f q)
+  least-end q h end =
+      let free = taken .freed in
+      let low = free .stop (f q) end in
+      let same = stop-only (whole plan self) (taken .before (f q)) q (omega arith) (omega arith) (free .follows (f q) end) in
+      let least : taken .netEnd s + c N s ≤ taken .netEnd (f q) + c N (f q) =
+      rw (taken .chosen) (preferred-sum (λ e. taken .netEnd e + c N e) (c N) k some (f q) end)
+      in
+      let own = free .costs s inserted-end in
+      let other = free .costs (f q) end ∙ ap (netOf f c (taken .total)) same in
+      let way = ap (c N) (free .follows s inserted-end) in
+      omega arith
+
+  -- where the ends stay
+  pub inserted-vouched : vouchRule k (N + 1) g c y ≡ true
+  inserted-vouched =
+      staying-rule plan self (taken .searched .nets) (taken .freed .stop s inserted-end) (rw (taken .freed .follows s inserted-end) inserted-end)
+      (taken .flipped) least-end y weighed
+
+-- a weight that becomes 0
+pub range-moved : (n s : ℕ) (y z : ℕ → ℤ) → rangeRule n y ≡ true → z s ≡ pos 0 → ((b : ℕ) → (b ≡ s → ⊥) → z b ≡ y b) → rangeRule n z ≡ true
+unfolding weightRule
+range-moved n s y z range zero same = below-all _ n (λ b h. each b h (ℕ-discrete b s))
+  where
+    each : (b : ℕ) → b < n → Dec (b ≡ s) → weightRule (z b) ≡ true
+    each b h (yes e) = rw (e, zero)
+    each b h (no away) = rw (same b away) (below-at _ n range b h)
+
+-- ---- a call served
 
 module _ {n : ℕ} {d : ℕ → ℕ → ℕ} (laws : Metric n d) {starts calls stands : List ℕ} (day : Instance n starts calls)
     (standing : Position n (length starts) stands) {r : ℕ} (asked : r < n) {f : ℕ → ℕ} (plan : Plan (length starts) (stops starts calls) f)
-    (self : f (stops starts calls) ≡ stops starts calls) {c : ℕ → ℕ → ℕ} {total parent rank : ℕ → ℕ}
-    (searched : Searched (length starts) (stops starts calls) f c total parent rank)
+    (self : f (stops starts calls) ≡ stops starts calls) {c : ℕ → ℕ → ℕ} {s : ℕ} {g : ℕ → ℕ} {old y : ℕ → ℤ}
+    (taken : Inserted (length starts) (stops starts calls) f c s g old y)
     (table : (p b : ℕ) → p ≤ stops starts calls → b ≤ stops starts calls → c p b ≡ legCost d starts (calls ++ (r ∷ [])) stands p b) where
+  abbrev N : ℕ
+  N = stops starts calls
+
   -- the net costs are those of the legs
-  pub nets : NetCosts (length starts) (stops starts calls) netBase f (legCost d starts (calls ++ (r ∷ [])) stands) (netOf f c total) parent rank
+  nets : NetCosts (length starts) N netBase f (legCost d starts (calls ++ (r ∷ [])) stands) (netOf f c (taken .total)) (taken .parent) (taken .rank)
   nets = record {
     source = costs .source;
     least = λ p q lt le may.
@@ -83,7 +124,7 @@ module _ {n : ℕ} {d : ℕ → ℕ → ℕ} (laws : Metric n d) {starts calls s
         omega arith;
     attained = λ p lt.
         let own = leg p p (le-of-lt lt) (le-of-lt lt) in
-        let other = leg p (parent p) (le-of-lt lt) (costs .chains .below p lt) in
+        let other = leg p (taken .parent p) (le-of-lt lt) (costs .chains .below p lt) in
         let attained = costs .attained p lt in
         omega arith;
     allowed = costs .allowed;
@@ -91,27 +132,41 @@ module _ {n : ℕ} {d : ℕ → ℕ → ℕ} (laws : Metric n d) {starts calls s
     ranked = costs .ranked;
   }
     where
-      costs : NetCosts (length starts) (stops starts calls) netBase f c (netOf f c total) parent rank
-      costs = searched .nets
+      costs : NetCosts (length starts) (N) netBase f c (netOf f c (taken .total)) (taken .parent) (taken .rank)
+      costs = taken .searched .nets
 
-      leg : (p q : ℕ) → p ≤ stops starts calls → q ≤ stops starts calls → c p (f q) ≡ legCost d starts (calls ++ (r ∷ [])) stands p (f q)
+      leg : (p q : ℕ) → p ≤ N → q ≤ N → c p (f q) ≡ legCost d starts (calls ++ (r ∷ [])) stands p (f q)
       leg p q h hq = table p (f q) h (matched-plan plan self .below q hq)
 
-  -- every crane stands at the end of a stop's leg
-  pub crane-stop : (s : ℕ) → s < length starts → (t : ℕ) × (t < stops starts calls) × (f t ≡ s)
-  crane-stop s h = stop-before plan s (omega arith)
+  -- the net cost of the stop before a crane's stand tells w for that crane
+  pub crane-work : (e : ℕ) → e < length starts → work d n starts (calls ++ (r ∷ [])) (moved stands r e) + netBase
+      ≡ planCost N (legCost d starts calls stands) f + taken .netEnd e
+  crane-work e h =
+      let free = taken .freed in
+      rw (free .costs e h) (net-work laws day standing asked plan self nets (taken .before e) e (free .stop e h) h (free .follows e h))
 
-  module _ (t s : ℕ) (lt : t < stops starts calls) (stand : s < length starts) (serves : f t ≡ s) where
-    -- the net cost of that stop tells w for the crane
-    pub crane-work : work d n starts (calls ++ (r ∷ [])) (moved stands r s) + netBase
-        ≡ planCost (stops starts calls) (legCost d starts calls stands) f + netOf f c total t
-    crane-work = net-work laws day standing asked plan self nets t s lt stand serves
+  -- the way from the new call to a stand is the crane's drive
+  way-drive : (e : ℕ) → e < length starts → c N e ≡ drive d stands r e
+  unfolding legCost drive
+  way-drive e h =
+      let stand : e < length stands = rw (standing .cranes) h in
+      let placed = standing .placed (entry-in stands e stand) in
+      table N e (le-refl N) (omega arith)
+      ∙ rw (place-last starts calls r, place-stand stands (calls ++ (r ∷ [])) e stand) (laws .both-ways r (getD stands e 0) asked placed)
 
-    module _ {g : ℕ → ℕ} (flipped : Flipped (stops starts calls) f parent t g) where
-      pub next-plan : planRule (length starts) (stops starts calls + 1) g ≡ true
-      next-plan = plan-rule (flipped-plan plan self nets lt (rw serves stand) flipped)
+  -- the end is the crane that the choice sends
+  pub inserted-choice : s ≡ choice d n starts calls stands r
+  unfolding choice moveSum
+  inserted-choice =
+      rw (taken .chosen, standing .cranes)
+      (preferred-same _ _ _ _ (length starts) (planCost N (legCost d starts calls stands) f) netBase (day .crane)
+      (λ e h. let work = crane-work e h in let way = way-drive e h in omega arith) way-drive)
 
-      pub next-vouched : {old y : ℕ → ℤ} → Reweighed (stops starts calls) s f (netOf f c total) old y
-          → vouchRule (length starts) (stops starts calls + 1) g (legCost d starts (calls ++ (r ∷ [])) (moved stands r s)) y ≡ true
-      next-vouched {y = y} new =
-          flipped-rule laws day standing asked plan self nets t s lt stand serves flipped y (new .moved) (weighed plan self searched new)
+  -- with that crane at the call its weight is 0, and the others are the negated net costs
+  pub inserted-served : (z : ℕ → ℤ) → z s ≡ pos 0 → ((b : ℕ) → (b ≡ s → ⊥) → z b ≡ y b)
+      → vouchRule (length starts) (N + 1) g (legCost d starts (calls ++ (r ∷ [])) (moved stands r s)) z ≡ true
+  inserted-served z zero same =
+      let crane = inserted-end (day .crane) plan self taken in
+      let free = taken .freed in
+      flipped-rule laws day standing asked plan self nets (taken .before s) s (free .stop s crane) crane (free .follows s crane) (taken .flipped) z zero
+      (λ q h away. same (f q) away ∙ weighed (day .crane) plan self taken q h)

@@ -1,4 +1,11 @@
 pub mod Fresh
 pub mod Sound
+pub mod Roads
 pub mod Ignored
+pub mod Tidy
 pub mod Insertion
+pub mod Answered
+pub mod FreeEnds
+pub mod Carried
+pub mod DayServed
+pub mod Promise

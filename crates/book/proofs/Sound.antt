@@ -1,5 +1,5 @@
--- What a sound book gives: its rules, its stops and stands as the work function takes them, and w of its stands as the cost
--- of its plan. Assumes nothing.
+-- What a sound book gives: its rules, its roads, its stops and stands as the work function takes them, and w of its stands as
+-- the cost of its plan. Assumes nothing.
 use Prim.Native.Nat.{ℕ, _<_, _≤_}
 use mathlib.Core.Bool.{true, and-eq-true-iff}
 use mathlib.Core.List.{List, List·Memᴰ}
@@ -8,7 +8,7 @@ use lib.ListN.{length}
 use lib.Seq.{length-take-le}
 use Rattle.base.specs.Metric.{Metric}
 use Rattle.base.proofs.Numbers.{unless-zero, then-zero, first-of}
-use Rattle.road.specs.Table.{legsRule, triangleRule}
+use Rattle.road.specs.Table.{entry, legsRule, triangleRule}
 use Rattle.road.proofs.Table.{tested-metric}
 use Rattle.dayfile.specs.Day.{stopsRule, countsRefusal}
 use Rattle.dayfile.proofs.Limits.{Counted, counted, counts-accepted, stop-below}
@@ -19,6 +19,8 @@ use Rattle.workfunction.proofs.Sums.{slot-of}
 use Rattle.workfunction.proofs.Witness.{witness-work}
 use Rattle.book.specs.declared.Book.{Book}
 use Rattle.book.specs.Book.{startsOf, standsOf, requestsOf, stopsOf, follower, weight, rangeRule, bookRefusal}
+use Rattle.book.specs.Insertion.{Roads, Asked}
+use Rattle.book.proofs.Roads.{roads}
 
 -- the lengths that a book's arrays of places have by their types
 pub record Arrays (book : Book) : Type 0 where
@@ -53,7 +55,7 @@ module _ {book : Book} (fits : Fits book) where
   stops-long = rw (starts-long, requests-long)
 
 -- places that keep their rule
-placed : (n : ℕ) (l : List ℕ) → stopsRule n l ≡ true → {r : ℕ} → List·Memᴰ r l → r < n
+pub placed : (n : ℕ) (l : List ℕ) → stopsRule n l ≡ true → {r : ℕ} → List·Memᴰ r l → r < n
 placed n l rule m = let at = slot-of m in rw (← at .2) (stop-below n l rule (at .0) (at .1))
 
 -- "A book is sound if none of 3 to 10 .. applies to it and its table": by its rules
@@ -96,6 +98,9 @@ module _ {book : Book} {n : ℕ} {d : ℕ → ℕ → ℕ} where
   pub sound-metric : Sound book n d → Metric n d
   sound-metric s = tested-metric n d (s .legs) (s .triangles)
 
+  pub sound-roads : Sound book n d → Roads n d (entry d)
+  sound-roads s = roads n d (s .legs) (s .triangles) (s .counts .places)
+
   pub sound-book : Sound book n d → bookRefusal book n d ≡ 0
   unfolding bookRefusal
   sound-book s =
@@ -103,19 +108,29 @@ module _ {book : Book} {n : ℕ} {d : ℕ → ℕ → ℕ} where
       (rw (s .range, s .vouched))
 
   module _ (arrays : Arrays book) (s : Sound book n d) where
-    sound-fits : Fits book
+    pub sound-fits : Fits book
     sound-fits = fit arrays (s .counts .cranes) (s .counts .calls)
+
+    pub sound-cranes : length (startsOf book) ≡ book .cranes
+    sound-cranes = starts-long sound-fits
 
     pub sound-instance : Instance n (startsOf book) (requestsOf book)
     sound-instance = record {
-      crane = rw (starts-long sound-fits) (s .counts .crane);
+      crane = rw sound-cranes (s .counts .crane);
       started = record { cranes = refl; placed = placed n (startsOf book) (s .starts) };
       called = placed n (requestsOf book) (s .requests);
     }
 
+    pub sound-asked : Asked n (startsOf book) (requestsOf book)
+    sound-asked = record {
+      day = sound-instance;
+      cranes = rw (starts-long sound-fits) (s .counts .cranes);
+      few = rw (requests-long sound-fits) (s .counts .calls);
+    }
+
     pub sound-standing : Position n (length (startsOf book)) (standsOf book)
     sound-standing = record {
-      cranes = rw (starts-long sound-fits) (stands-long sound-fits);
+      cranes = rw sound-cranes (stands-long sound-fits);
       placed = placed n (standsOf book) (s .stands);
     }
 

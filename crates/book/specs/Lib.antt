@@ -1,3 +1,5 @@
 pub mod Book
 pub mod Legs
 pub mod Search
+pub mod Serving
+pub mod Insertion

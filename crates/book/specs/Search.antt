@@ -88,12 +88,10 @@ pub record Sized (N : ℕ) (plan costs totals parents ranks : List ℕ) : Type 0
   pub parented : N < length parents
   pub ranked : N < length ranks
 
--- what the search begins from: a plan of N stops with weights that vouch for it over the table's legs, and N, which is followed
--- by itself for the moment
+-- what the search begins from: a plan of N stops with weights that vouch for it over the table's legs
 pub record Witnessed (k N : ℕ) (plan : List ℕ) (weights : List ℤ) (costs : List ℕ) : Type 0 where
   pub few : N < 272
   pub weighed : N ≤ length weights
-  pub new : follower plan N ≡ N
   pub planned : planRule k N (follower plan) ≡ true
   pub ranged : rangeRule N (weight weights) ≡ true
   pub vouched : vouchRule k N (follower plan) (legAt costs) (weight weights) ≡ true
@@ -118,8 +116,7 @@ pub record Matched (N : ℕ) (f : ℕ → ℕ) : Type 0 where
   pub below : (p : ℕ) → p ≤ N → f p ≤ N
   pub only : (p q : ℕ) → p ≤ N → q ≤ N → f p ≡ f q → p ≡ q
 
--- the new weights: the negated net costs, and 0 for the stand s that moves
-pub record Reweighed (N s : ℕ) (f net : ℕ → ℕ) (old y : ℕ → ℤ) : Type 0 where
-  pub moved : y s ≡ pos 0
-  pub others : (q : ℕ) → q ≤ N → (f q ≡ s → ⊥) → y (f q) ≡ negℤ (pos (net q) -ℤ pos netBase)
+-- the new weights: the negated net costs
+pub record Reweighed (N : ℕ) (f net : ℕ → ℕ) (old y : ℕ → ℤ) : Type 0 where
+  pub renewed : (q : ℕ) → q ≤ N → y (f q) ≡ negℤ (pos (net q) -ℤ pos netBase)
   pub past : (b : ℕ) → N < b → y b ≡ old b

@@ -2,13 +2,14 @@
 use crate::Book;
 use road::Road;
 use road::Table;
+ghost use mathlib.Core.List.{[], _∷_, _++_};
 ghost use mathlib.Core.Path.{_≡_};
-ghost use Prim.Native.Nat.{_*_, _<_, _≤_};
-ghost use lib.ListN.{length};
+ghost use Prim.Native.Nat.{ℕ, _+_, _*_, _<_, _≤_};
+ghost use lib.ListN.{length, getD};
 ghost use Rattle.base.specs.Lists.{upTo};
 ghost use Rattle.road.specs.Table.{distance, entry};
-ghost use Rattle.workfunction.specs.Plan.{stops, place};
-ghost use Rattle.book.specs.Legs.{legAt, LegTable};
+ghost use Rattle.workfunction.specs.Plan.{stops, place, freeCost};
+ghost use Rattle.book.specs.Legs.{legAt, Rows, LegTable};
 
 // The length of a row.
 pub(crate) const ROW: usize = Book::STOPS;
@@ -61,6 +62,78 @@ pub(crate) fn fill(table: &Table, starts: &[u16], calls: &[u16], stands: &[u16],
             starts,
             calls,
             place_of(stands, calls, b),
+            &mut costs[at..at + stops],
+        );
+        b += 1;
+    }
+}
+
+// The column of the stop p, at the place `from`: the metres from it to each follower below it.
+fn fill_column(
+    table: &Table,
+    stands: &[u16],
+    calls: &[u16],
+    from: usize,
+    p: usize,
+    costs: &mut [u32],
+)
+    requires { ⌜ (p < 272) × ((p ≤ stops (now stands) (now calls)) × (272 * 272 ≤ length (now costs))) ⌝ }
+    ensures { λ _. ⌜ ((b : ℕ) → b < p → legAt (now (costs .exit)) p b ≡ entry (distance (now (table .entry))) from (place (now (stands .entry)) (now (calls .entry)) b)) × ((q b : ℕ) → q < p → legAt (now (costs .exit)) q b ≡ legAt (now (costs .entry)) q b) ⌝ }
+{
+    let mut b = 0;
+    while b < p {
+        let to = place_of(stands, calls, b);
+        costs[ROW * b + p] = Road::metres(table, from, to);
+        b += 1;
+    }
+}
+
+// The table of a book's legs once a call at `at` is appended: one row and one column more.
+pub(crate) fn extend(
+    table: &Table,
+    starts: &[u16],
+    calls: &[u16],
+    stands: &[u16],
+    at: u16,
+    costs: &mut [u32],
+)
+    requires { ⌜ (length (now stands) ≡ length (now starts)) × ((stops (now starts) (now calls) < 272) × ((272 * 272 ≤ length (now costs)) × LegTable (entry (distance (now table))) (now starts) (now calls) (now stands) (now costs))) ⌝ }
+    ensures { λ _. ⌜ LegTable (entry (distance (now (table .entry)))) (now (starts .entry)) (now (calls .entry) ++ (at ∷ [])) (now (stands .entry)) (now (costs .exit)) ⌝ }
+{
+    let new = starts.len() + calls.len();
+    let row = ROW * new;
+    let to = at as usize;
+    fill_row(table, starts, calls, to, &mut costs[row..row + new]);
+    fill_column(table, stands, calls, to, new, costs);
+    costs[row + new] = Road::metres(table, to, to);
+}
+
+// The row of one follower becomes that of another, as far as the stops below `count`.
+pub(crate) fn copy_row(count: usize, from: usize, to: usize, costs: &mut [u32])
+    requires { ⌜ (count ≤ 272) × ((from < 272) × ((to < 272) × (272 * 272 ≤ length (now costs)))) ⌝ }
+    ensures { λ _. ⌜ ((p : ℕ) → p < count → legAt (now (costs .exit)) p to ≡ legAt (now (costs .entry)) p from) × ((p b : ℕ) → p < 272 → (b ≡ to → ⊥) → legAt (now (costs .exit)) p b ≡ legAt (now (costs .entry)) p b) ⌝ }
+{
+    let mut p = 0;
+    while p < count {
+        costs[ROW * to + p] = costs[ROW * from + p];
+        p += 1;
+    }
+}
+
+// The table of legs with free ends, from one of zeros: the rows of the calls.
+pub(crate) fn fill_free(table: &Table, starts: &[u16], calls: &[u16], costs: &mut [u32])
+    requires { ⌜ (stops (now starts) (now calls) ≤ 272) × ((272 * 272 ≤ length (now costs)) × ((i : ℕ) → getD (now costs) i 0 ≡ 0)) ⌝ }
+    ensures { λ _. ⌜ Rows (stops (now (starts .entry)) (now (calls .entry))) (stops (now (starts .entry)) (now (calls .entry))) (freeCost (entry (distance (now (table .entry)))) (now (starts .entry)) (now (calls .entry))) (now (costs .exit)) ⌝ }
+{
+    let stops = starts.len() + calls.len();
+    let mut b = starts.len();
+    while b < stops {
+        let at = ROW * b;
+        fill_row(
+            table,
+            starts,
+            calls,
+            place_of(starts, calls, b),
             &mut costs[at..at + stops],
         );
         b += 1;

@@ -148,7 +148,8 @@ fn rounds(
     }
 }
 
-// The net costs of the stops of a plan whose weights vouch for it, for one more call, of the number `new`.
+// The net costs of the stops of a plan whose weights vouch for it, for one more call, of the number `new`, which is followed by
+// itself for the moment.
 pub(crate) fn search(
     cranes: usize,
     new: usize,
@@ -159,7 +160,7 @@ pub(crate) fn search(
     parents: &mut [usize],
     ranks: &mut [usize],
 )
-    requires { ⌜ Sized new (now plan) (now costs) (now totals) (now parents) (now ranks) × Witnessed cranes new (now plan) (now weights) (now costs) ⌝ }
+    requires { ⌜ (follower (now plan) new ≡ new) × (Sized new (now plan) (now costs) (now totals) (now parents) (now ranks) × Witnessed cranes new (now plan) (now weights) (now costs)) ⌝ }
     ensures { λ _. ⌜ Searched cranes new (follower (now (plan .entry))) (legAt (now (costs .entry))) (at (now (totals .exit))) (at (now (parents .exit))) (at (now (ranks .exit))) ⌝ }
 {
     let mut heads = [0; Book::STOPS];

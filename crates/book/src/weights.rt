@@ -155,17 +155,10 @@ pub(crate) fn test(
     test_vouching(cranes, stops, plan, weights, costs)
 }
 
-// The new weights: of each stop's follower the opposite of the net cost of freeing it, and 0 for the stand that moves.
-pub(crate) fn renew(
-    new: usize,
-    stand: usize,
-    plan: &[u16],
-    totals: &[u64],
-    costs: &[u32],
-    weights: &mut [i64],
-)
-    requires { ⌜ (new < 272) × ((stand ≤ new) × ((new < length (now plan)) × ((new < length (now totals)) × ((new < length (now weights)) × ((272 * 272 ≤ length (now costs)) × (Matched new (follower (now plan)) × Totalled new (follower (now plan)) (legAt (now costs)) (at (now totals)))))))) ⌝ }
-    ensures { λ _. ⌜ Reweighed new stand (follower (now (plan .entry))) (netOf (follower (now (plan .entry))) (legAt (now (costs .entry))) (at (now (totals .entry)))) (weight (now (weights .entry))) (weight (now (weights .exit))) ⌝ }
+// The new weights: of each stop's follower the opposite of the net cost of freeing it.
+pub(crate) fn renew(new: usize, plan: &[u16], totals: &[u64], costs: &[u32], weights: &mut [i64])
+    requires { ⌜ (new < 272) × ((new < length (now plan)) × ((new < length (now totals)) × ((new < length (now weights)) × ((272 * 272 ≤ length (now costs)) × (Matched new (follower (now plan)) × Totalled new (follower (now plan)) (legAt (now costs)) (at (now totals))))))) ⌝ }
+    ensures { λ _. ⌜ Reweighed new (follower (now (plan .entry))) (netOf (follower (now (plan .entry))) (legAt (now (costs .entry))) (at (now (totals .entry)))) (weight (now (weights .entry))) (weight (now (weights .exit))) ⌝ }
 {
     let mut p = 0;
     while p <= new {
@@ -174,5 +167,4 @@ pub(crate) fn renew(
         weights[b] = -net;
         p += 1;
     }
-    weights[stand] = 0;
 }

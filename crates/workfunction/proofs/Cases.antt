@@ -12,7 +12,7 @@ use Rattle.workfunction.specs.Lists.{least, inserted, orders, sumBelow, 
 use Rattle.workfunction.specs.Position.{positions, pairing, distance}
 use Rattle.workfunction.specs.Movement.{contains, movements, cost, work, floor}
 use Rattle.workfunction.specs.Choice.{preferred, drive, moveSum, choice}
-use Rattle.workfunction.specs.Serving.{Served, serve}
+use Rattle.workfunction.specs.Serving.{Served, servedBy, serve}
 use Rattle.workfunction.specs.Plan.{mayFollow, follows, followersRule, onceRule, planRule, slackRule, vouchAt, vouchRule, planCost, place, legCost, freeCost}
 
 -- three places, by the legs (0,1), (0,2), (1,2)
@@ -55,7 +55,7 @@ unfoldable pub told : Day → List Served × ℕ
 told (day _ _ _ lines lowest) = (lines, lowest)
 
 pub days-agree : map found days ≡ map told days
-unfolding days found told upTo least inserted orders keep leastBy choices positions pairing distance contains movements cost work floor flatMap headD drive moveSum preferred choice serve
+unfolding days found told upTo least inserted orders keep leastBy choices positions pairing distance contains movements cost work floor flatMap headD drive moveSum preferred choice servedBy serve
 days-agree = refl
 
 -- "both give 20"

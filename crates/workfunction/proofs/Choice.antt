@@ -96,6 +96,19 @@ module _ (f g : ℕ → ℕ) (k : ℕ) (some : 0 < k) where
       let q : g s ≡ g (preferred f g k) = le-antisymm (drive _ p (sym e)) (preferred-drive s h e) in
       le-antisymm (number _ p (sym e) (sym q)) (preferred-number s h e q)
 
+-- sums that differ from others by the same amount, and drives that are the same, prefer the same number
+pub preferred-same : (f f' g g' : ℕ → ℕ) (k a b : ℕ) → 0 < k → ((t : ℕ) → t < k → f t + a ≡ f' t + b) → ((t : ℕ) → t < k → g t ≡ g' t)
+    → preferred f g k ≡ preferred f' g' k
+preferred-same f f' g g' k a b some sums drives =
+    let s = preferred f g k in
+    let below = preferred-below f g k some in
+    let mine = sums s below in
+    let own = drives s below in
+    preferred-only f' g' k some s below
+    (λ t h. let least = preferred-sum f g k some t h in let sum = sums t h in omega arith)
+    (λ t h e. let sum = sums t h in let way = drives t h in let least = preferred-drive f g k some t h (omega arith) in omega arith)
+    (λ t h e q. let sum = sums t h in let way = drives t h in preferred-number f g k some t h (omega arith) (omega arith))
+
 module _ {n : ℕ} {d : ℕ → ℕ → ℕ} (laws : Metric n d) {starts calls stands : List ℕ} (day : Instance n starts calls)
     (standing : Position n (length starts) stands) {r : ℕ} (asked : r < n) where
   -- the crane that the least pairing of the stands with C takes to the call does as well alone

@@ -7,8 +7,8 @@ use mathlib.Core.Logic.{_⊎_, inl, inr, ⊎-elim}
 use mathlib.Core.Path.{_≡_, refl, sym, ap, subst, _∙_}
 use borrow.Author.Tests.{eq-eqb, ne-eqb}
 use lib.Dec.{eqb}
-use lib.IntN.{ℤ, pos, _-ℤ_}
-use lib.ListN.{length, length-append}
+use lib.IntN.{ℤ, pos, _-ℤ_, +ℤ-invr}
+use lib.ListN.{length}
 use native.Mathlib.Decide.{ℕ-discrete}
 use native.Mathlib.Nat.{mul-suc, le-refl, le-add-right, mul-le-mul-left, le-of-lt, lt-irrefl, eq-or-lt-of-le}
 use native.Mathlib.Omega.{arith}
@@ -24,7 +24,7 @@ use Rattle.workfunction.proofs.Flip.{by-parents, flipped-for}
 use Rattle.workfunction.proofs.Movement.{instance-then}
 use Rattle.workfunction.proofs.Plan.{Plan, Vouched, vouch-rule, stop-before, stop-only, followers-sum}
 use Rattle.workfunction.proofs.Position.{position-set}
-use Rattle.workfunction.proofs.Stops.{stop-placed, place-last, place-early, place-crane, place-others}
+use Rattle.workfunction.proofs.Stops.{stop-placed, follower-placed, stops-more, place-last, place-early, place-crane, place-others}
 use Rattle.workfunction.proofs.Witness.{plan-work}
 use Rattle.workfunction.proofs.Sums.{sum-same, sum-plus, sum-at, sum-last, sum-zero, sum-one, put, put-at, put-other}
 
@@ -161,6 +161,64 @@ module _ {k N base : ℕ} {f : ℕ → ℕ} {c : ℕ → ℕ → ℕ} {net paren
         let source = costs .source in
         omega arith
 
+    -- v is lowest, with the leg to it, at the follower that each stop takes: then weights of base less v vouch
+    module _ (c' : ℕ → ℕ → ℕ) (v : ℕ → ℕ)
+        (lowest : (p b : ℕ) → p < N + 1 → b < N + 1 → (b < k) ⊎ (p < b) → v (g p) + c' p (g p) ≤ v b + c' p b) where
+      lowest-vouched : Vouched k (N + 1) g c' (λ b. sumBelow (N + 1) v - v b)
+      lowest-vouched = record { vouch = each }
+        where
+          each : (p b : ℕ) → p < N + 1 → b < N + 1 → (b < k) ⊎ (p < b)
+              → sumBelow (N + 1) v - v b + c' p (g p) ≤ sumBelow (N + 1) v - v (g p) + c' p b
+          each p b h hb m =
+              let least = lowest p b h hb m in
+              let one = sum-at (N + 1) v b hb in
+              let other = sum-at (N + 1) v (g p) (flipped-plan .below p h) in
+              omega arith
+
+      -- the same as signed numbers
+      lowest-rule : (y : ℕ → ℤ) → ((q : ℕ) → q ≤ N → y (f q) ≡ pos base -ℤ pos (v (f q))) → vouchRule k (N + 1) g c' y ≡ true
+      unfolding plus minus
+      lowest-rule y weighed = vouch-rule g c' y each
+        where
+          split : (q : ℕ) → q ≤ N → plus (y (f q)) + v (f q) ≡ base + minus (y (f q))
+          split q hq = let difference = plus-difference (pos base) (pos (v (f q))) in rw (weighed q hq) (omega arith)
+
+          parts : (b : ℕ) → b < N + 1 → plus (y b) + v b ≡ base + minus (y b)
+          parts = by-stops plan self (λ b. plus (y b) + v b ≡ base + minus (y b)) split
+
+          each : (p b : ℕ) → p < N + 1 → b < N + 1 → (b < k) ⊎ (p < b)
+              → plus (y b) + minus (y (g p)) + c' p (g p) ≤ plus (y (g p)) + minus (y b) + c' p b
+          each p b h hb m =
+              let least = lowest p b h hb m in
+              let one = parts b hb in
+              let other = parts (g p) (flipped-plan .below p h) in
+              omega arith
+
+    -- ---- the ends stay, and the one that N takes has the least net cost and leg together
+
+    module _ (best : (q : ℕ) → q ≤ N → f q < k → net t + c N (f t) ≤ net q + c N (f q)) where
+      least-staying : (p q : ℕ) → p ≤ N → q ≤ N → (f q < k) ⊎ (p < f q) → netBefore (g p) + c p (g p) ≤ netBefore (f q) + c p (f q)
+      least-staying p q h hq m = rw (net-before q hq) (⊎-elim last early (eq-or-lt-of-le h))
+        where
+          last : p ≡ N → netBefore (g p) + c p (g p) ≤ net q + c p (f q)
+          last z =
+              let on = follower-on plan self q hq in
+              let end : f q < k = ⊎-elim (λ (end : f q < k). end) (λ (l : p < f q). absurd (omega arith)) m in
+              rw (z, flipped .freed, net-before t (le-of-lt lt)) (best q hq end)
+
+          early : p < N → netBefore (g p) + c p (g p) ≤ net q + c p (f q)
+          early less = rw (leg-net p less) (costs .least p q less hq m)
+
+      -- then the negated net costs vouch
+      pub staying-rule : (y : ℕ → ℤ) → ((q : ℕ) → q ≤ N → y (f q) ≡ pos base -ℤ pos (net q)) → vouchRule k (N + 1) g c y ≡ true
+      staying-rule y weighed =
+          lowest-rule c netBefore
+          (λ p b h. by-stops plan self (λ b. (b < k) ⊎ (p < b) → netBefore (g p) + c p (g p) ≤ netBefore b + c p b)
+          (λ q hq. least-staying p q (omega arith) hq) b)
+          y (λ q hq. rw (net-before q hq) (weighed q hq))
+
+    -- ---- crane s goes to the call
+
     module _ {s : ℕ} {c' : ℕ → ℕ → ℕ} (serves : f t ≡ s) (arrived : Arrived N s c c') where
       -- the weight of b is base less this: the net cost of the stop before b, and base for s
       newBefore : ℕ → ℕ
@@ -234,38 +292,17 @@ module _ {k N base : ℕ} {f : ℕ → ℕ} {c : ℕ → ℕ → ℕ} {net paren
           (λ q hq. least-before p q (omega arith) hq) b
 
       flipped-vouched : Vouched k (N + 1) g c' (λ b. sumBelow (N + 1) newBefore - newBefore b)
-      flipped-vouched = record { vouch = each }
-        where
-          each : (p b : ℕ) → p < N + 1 → b < N + 1 → (b < k) ⊎ (p < b)
-              → sumBelow (N + 1) newBefore - newBefore b + c' p (g p) ≤ sumBelow (N + 1) newBefore - newBefore (g p) + c' p b
-          each p b h hb m =
-              let least = least-follower p b h hb m in
-              let one = sum-at (N + 1) newBefore b hb in
-              let other = sum-at (N + 1) newBefore (g p) (flipped-plan .below p h) in
-              omega arith
+      flipped-vouched = lowest-vouched c' newBefore least-follower
 
       -- the same as signed numbers
       flipped-vouch : (y : ℕ → ℤ) → y s ≡ pos 0 → ((q : ℕ) → q ≤ N → (f q ≡ s → ⊥) → y (f q) ≡ pos base -ℤ pos (net q))
           → vouchRule k (N + 1) g c' y ≡ true
-      unfolding newBefore plus minus
-      flipped-vouch y zero rest = vouch-rule g c' y each
+      unfolding newBefore
+      flipped-vouch y zero rest = lowest-rule c' newBefore least-follower y (λ q hq. weighed q hq (ℕ-discrete (f q) s))
         where
-          split : (q : ℕ) → q ≤ N → Dec (f q ≡ s) → plus (y (f q)) + newBefore (f q) ≡ base + minus (y (f q))
-          split q hq (yes e) = rw (e, zero, put-at s base netBefore) (omega arith)
-          split q hq (no n) =
-              let difference = plus-difference (pos base) (pos (net q)) in
-              rw (rest q hq n, put-other s base netBefore (f q) n, net-before q hq) (omega arith)
-
-          parts : (b : ℕ) → b < N + 1 → plus (y b) + newBefore b ≡ base + minus (y b)
-          parts = by-stops plan self (λ b. plus (y b) + newBefore b ≡ base + minus (y b)) (λ q hq. split q hq (ℕ-discrete (f q) s))
-
-          each : (p b : ℕ) → p < N + 1 → b < N + 1 → (b < k) ⊎ (p < b)
-              → plus (y b) + minus (y (g p)) + c' p (g p) ≤ plus (y (g p)) + minus (y b) + c' p b
-          each p b h hb m =
-              let least = least-follower p b h hb m in
-              let one = parts b hb in
-              let other = parts (g p) (flipped-plan .below p h) in
-              omega arith
+          weighed : (q : ℕ) → q ≤ N → Dec (f q ≡ s) → y (f q) ≡ pos base -ℤ pos (newBefore (f q))
+          weighed q hq (yes e) = rw (e, put-at s base netBefore) (zero ∙ sym (+ℤ-invr (pos base)))
+          weighed q hq (no n) = rw (put-other s base netBefore (f q) n, net-before q hq) (rest q hq n)
 
 -- ---- the work function
 
@@ -274,21 +311,16 @@ module _ {n : ℕ} {d : ℕ → ℕ → ℕ} (laws : Metric n d) {starts calls s
   follower-last : place stands (calls ++ (r ∷ [])) (stops starts calls) ≡ r
   follower-last = rw (← standing .cranes) (place-last stands calls r)
 
-  one-more : stops starts calls + 1 ≡ stops starts (calls ++ (r ∷ []))
-  one-more = rw (length-append calls (r ∷ [])) (omega arith)
+  abbrev longer : List ℕ
+  longer = calls ++ (r ∷ [])
 
-  follower-placed : (b : ℕ) → b ≤ stops starts calls → place stands (calls ++ (r ∷ [])) b < n
-  follower-placed b h =
-      let ends : Position n (length stands) stands = record { cranes = refl; placed = standing .placed } in
-      stop-placed
-      (record { crane = rw (standing .cranes) (day .crane); started = ends; called = instance-then day asked .called }) b
-      (rw (standing .cranes, ← one-more) (omega arith))
+  one-more : stops starts calls + 1 ≡ stops starts longer
+  one-more = stops-more starts calls r
 
   arrived-at : (s : ℕ) → s < length starts
       → Arrived (stops starts calls) s (legCost d starts (calls ++ (r ∷ [])) stands) (legCost d starts (calls ++ (r ∷ [])) (moved stands r s))
   unfolding legCost
   arrived-at s h =
-      let longer : List ℕ = calls ++ (r ∷ []) in
       let crane : s < length stands = rw (standing .cranes) h in
       record {
         others = λ p b away. ap (d (place starts longer p)) (place-others stands longer r s b crane away);
@@ -297,7 +329,7 @@ module _ {n : ℕ} {d : ℕ → ℕ → ℕ} (laws : Metric n d) {starts calls s
         triangle = λ p b lt le.
             rw (place-last starts calls r, follower-last)
             (laws .triangle (place starts longer p) r (place stands longer b)
-            (stop-placed (instance-then day asked) p (rw (← one-more) (omega arith))) asked (follower-placed b le));
+            (stop-placed (instance-then day asked) p (rw (← one-more) (omega arith))) asked (follower-placed (instance-then day asked) standing b (rw (← one-more) (omega arith))));
       }
 
   module _ {base : ℕ} {f net parent rank : ℕ → ℕ} (plan : Plan (length starts) (stops starts calls) f)

@@ -107,6 +107,17 @@ stop-placed {starts = starts} {calls} day p h =
     ⊎-elim (λ m. day .started .placed m) (λ m. day .called m)
     (List·Memᴰ·append-cases starts (entry-in (starts ++ calls) p (rw (length-append starts calls) h)))
 
+-- and so does every follower
+pub follower-placed : {n : ℕ} {starts calls stands : List ℕ} → Instance n starts calls → Position n (length starts) stands
+    → (b : ℕ) → b < stops starts calls → place stands calls b < n
+follower-placed {n} {stands = stands} day standing b h =
+    let ends : Position n (length stands) stands = record { cranes = refl; placed = standing .placed } in
+    stop-placed (record { crane = rw (standing .cranes) (day .crane); started = ends; called = day .called }) b (rw (standing .cranes) h)
+
+-- the number of stops with one call more
+pub stops-more : (starts calls : List ℕ) (r : ℕ) → stops starts calls + 1 ≡ stops starts (calls ++ (r ∷ []))
+stops-more starts calls r = rw (length-append calls (r ∷ [])) (omega arith)
+
 -- a call has the same place as a stop and as a follower; a stand has its own
 pub place-call : (starts stands calls : List ℕ) (b : ℕ) → length stands ≡ length starts → length starts ≤ b
     → place stands calls b ≡ place starts calls b

@@ -11,11 +11,16 @@ pub record Served : Type 0 where
   pub least : ℕ
 
 module _ (d : ℕ → ℕ → ℕ) (n : ℕ) (starts : List ℕ) where
-  -- the calls to come, after those already served: "Its stand becomes r, r is appended."
+  -- of a call at r, after those already served, where crane s goes to it
+  unfoldable pub servedBy : ℕ → List ℕ → List ℕ → ℕ → Served
+  servedBy s calls stands r = record { crane = s; metres = drive d stands r s; least = work d n starts (calls ++ (r ∷ [])) (moved stands r s) }
+
+  -- where the crane chosen does
+  abbrev pub served : List ℕ → List ℕ → ℕ → Served
+  served calls stands r = servedBy (choice d n starts calls stands r) calls stands r
+
+  -- the calls to come: "Its stand becomes r, r is appended."
   unfoldable pub serve : List ℕ → List ℕ → List ℕ → List Served
   serve calls stands [] = []
   serve calls stands (r ∷ rs) =
-      let s = choice d n starts calls stands r in
-      let now = calls ++ (r ∷ []) in
-      let there = moved stands r s in
-      record { crane = s; metres = drive d stands r s; least = work d n starts now there } ∷ serve now there rs
+      served calls stands r ∷ serve (calls ++ (r ∷ [])) (moved stands r (choice d n starts calls stands r)) rs

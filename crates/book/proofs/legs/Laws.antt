@@ -1,12 +1,12 @@
--- The laws of the places of stops and followers, and of a table of leg costs that is filled row by row; only the
--- distances between the places decide them. Assumes nothing.
+-- The laws of the places of stops and followers, and of a table of leg costs into which a leg or a row is written; only
+-- the distances between the places decide them. Assumes nothing.
 use Prim.Native.Nat.{ℕ, _+_, _-_, _*_, _<_, _≤_, zero-le}
 use mathlib.Core.Bool.{true}
 use mathlib.Core.List.{List, _++_}
 use mathlib.Core.Logic.{⊎-elim}
 use mathlib.Core.Path.{_≡_, refl, sym, ap, subst, _∙_}
-use lib.ListN.{length, getD, take, drop, length-append, length-drop, List·getD-append, List·getD-eq-default}
-use lib.Seq.{length-take-le, getD-append-add, getD-take}
+use lib.ListN.{length, getD, set, take, drop, length-append, length-drop, List·getD-append, List·getD-eq-default}
+use lib.Seq.{length-take-le, getD-append-add, getD-take, getD-set-same, getD-set-other}
 use native.Mathlib.Decide.{decLt}
 use native.Mathlib.Nat.{not-suc-le-zero, le-antisymm, le-of-suc-le-suc, eq-or-lt-of-le}
 use native.Mathlib.Numerals.{add-one}
@@ -18,12 +18,54 @@ use Rattle.dayfile.proofs.Limits.{stop-below}
 use Rattle.workfunction.specs.Plan.{place, legCost}
 use Rattle.workfunction.proofs.Stops.{place-stand}
 use Rattle.book.specs.Legs.{legAt, Rows}
+use Rattle.book.proofs.search.Lent.{lent, length-lent}
 
 -- the place of a call
 pub place-past : (first calls : List ℕ) (p : ℕ) → length first ≤ p → place first calls p ≡ getD calls (p - length first) 0
 unfolding place
 place-past first calls p low =
     ap (λ (i : ℕ). getD (first ++ calls) i 0) (omega arith) ∙ getD-append-add first calls (p - length first) 0
+
+-- the leg from stop p to follower b is written
+module _ (costs : List ℕ) (p b v : ℕ) (col : p < 272) where
+  pub leg-written : 272 * b + p < length costs → legAt (set costs (272 * b + p) v) p b ≡ v
+  unfolding legAt
+  leg-written fits = getD-set-same costs (272 * b + p) v 0 fits
+
+  -- every other leg is as it was
+  pub leg-kept : (q a : ℕ) → q < 272 → (q ≡ p → a ≡ b → ⊥) → legAt (set costs (272 * b + p) v) q a ≡ legAt costs q a
+  unfolding legAt
+  leg-kept q a lt other =
+      getD-set-other costs (272 * b + p) (272 * a + q) v 0 (λ (e : 272 * a + q ≡ 272 * b + p). other (omega arith) (omega arith))
+
+-- the table with its row of the follower b, as far as n stops, put back after it was lent
+abbrev pub rowBack : List ℕ → ℕ → ℕ → List ℕ → List ℕ
+rowBack costs b n row = take (272 * b) costs ++ (row ++ drop (272 * b + n - 272 * b) (drop (272 * b) costs))
+
+-- the row is filled by g
+module _ (costs row : List ℕ) (b n : ℕ) (g : ℕ → ℕ) (fits : 272 * b + n ≤ length costs)
+    (same : row ≡ upTo (length (lent costs b (272 * b + n))) g) where
+  row-is : row ≡ upTo n g
+  row-is = same ∙ ap (λ (m : ℕ). upTo m g) (length-lent costs b (272 * b + n) fits ∙ omega arith)
+
+  front : length (take (272 * b) costs) ≡ 272 * b
+  front = length-take-le (272 * b) costs (omega arith)
+
+  pub length-row : length (rowBack costs b n row) ≡ length costs
+  length-row = rw row-is (simp (length-append, front, length-upTo, length-drop) (omega arith))
+
+  -- the rows before are as they were
+  pub row-kept : (p a : ℕ) → p < 272 → a < b → legAt (rowBack costs b n row) p a ≡ legAt costs p a
+  unfolding legAt
+  row-kept p a h l =
+      List·getD-append (take (272 * b) costs) _ 0 (272 * a + p) (rw front (omega arith))
+      ∙ getD-take (272 * b) costs (272 * a + p) 0 (omega arith)
+
+  pub row-new : (p : ℕ) → p < n → legAt (rowBack costs b n row) p b ≡ g p
+  unfolding legAt
+  row-new p h =
+      ap (λ (i : ℕ). getD (rowBack costs b n row) (i + p) 0) (sym front) ∙ getD-append-add (take (272 * b) costs) _ p 0
+      ∙ rw row-is (List·getD-append (upTo n g) _ 0 p (rw length-upTo h)) ∙ getD-upTo n g p 0 h
 
 -- the invariant of a loop that fills the rows of n followers: those before b
 pub record RowsFilled (n : ℕ) (c : ℕ → ℕ → ℕ) (old now : List ℕ) (b : ℕ) : Type 0 where
@@ -35,48 +77,21 @@ module _ (n : ℕ) (c : ℕ → ℕ → ℕ) (old : List ℕ) where
   pub rows-begun : RowsFilled n c old old 0
   rows-begun = record { most = zero-le; long = refl; rows = record { leg = λ p b h l. absurd (not-suc-le-zero l) } }
 
-  module _ (now : List ℕ) (b : ℕ) (at : 272 * b + n ≤ length now) (most : n ≤ 272) where
-    abbrev row : List ℕ
-    row = upTo n (λ p. c p b)
-
-    abbrev new : List ℕ
-    new = take (272 * b) now ++ (row ++ drop n (drop (272 * b) now))
-
-    before : length (take (272 * b) now) ≡ 272 * b
-    before = length-take-le (272 * b) now (omega arith)
-
-    long-as-before : length new ≡ length now
-    long-as-before = simp (length-append, before, length-upTo, length-drop) (omega arith)
-
-    -- the rows before are as they were
-    row-kept : (p a : ℕ) → p < n → a < b → legAt new p a ≡ legAt now p a
-    unfolding legAt
-    row-kept p a h l =
-        List·getD-append (take (272 * b) now) _ 0 (272 * a + p) (rw before (omega arith)) ∙ getD-take (272 * b) now (272 * a + p) 0 (omega arith)
-
-    row-new : (p : ℕ) → p < n → legAt new p b ≡ c p b
-    unfolding legAt
-    row-new p h =
-        ap (λ (i : ℕ). getD new (i + p) 0) (sym before) ∙ getD-append-add (take (272 * b) now) _ p 0
-        ∙ List·getD-append row _ 0 p (rw length-upTo h) ∙ getD-upTo n (λ p. c p b) p 0 h
-
   -- the part from 272 * b to 272 * b + n is filled
   pub rows-turned : (now part : List ℕ) (b : ℕ) → n ≤ 272 → 272 * 272 ≤ length old → RowsFilled n c old now b → b < n
       → part ≡ upTo (length (take (272 * b + n - 272 * b) (drop (272 * b) now))) (λ p. c p b)
       → RowsFilled n c old (take (272 * b) now ++ (part ++ drop (272 * b + n - 272 * b) (drop (272 * b) now))) (b + 1)
   rows-turned now part b most fits f lt same =
-      let e : 272 * b + n - 272 * b ≡ n = omega arith in
       let at : 272 * b + n ≤ length now = omega arith in
-      let len : length (take n (drop (272 * b) now)) ≡ n = length-take-le n _ (simp length-drop (omega arith)) in
-      rw (same, e, len) (record {
+      record {
         most = omega arith;
-        long = long-as-before now b at most ∙ f .long;
+        long = length-row now part b n (λ p. c p b) at same ∙ f .long;
         rows = record {
-          leg = λ p a h l. ⊎-elim (λ (s : a ≡ b). rw s (row-new now b at most p h))
-              (λ (m : a < b). row-kept now b at most p a h m ∙ f .rows .leg p a h m)
+          leg = λ p a h l. ⊎-elim (λ (s : a ≡ b). rw s (row-new now part b n (λ p. c p b) at same p h))
+              (λ (m : a < b). row-kept now part b n (λ p. c p b) at same p a (omega arith) m ∙ f .rows .leg p a h m)
               (eq-or-lt-of-le (le-of-suc-le-suc (rw add-one at l)));
         };
-      })
+      }
 
   pub rows-ended : (now : List ℕ) (b : ℕ) → RowsFilled n c old now b → n ≤ b → Rows n n c now
   rows-ended now b f le = subst (λ (m : ℕ). Rows n m c now) (le-antisymm (f .most) le) (f .rows)

@@ -15,8 +15,9 @@ use native.Mathlib.Omega.{arith}
 use Rattle.base.specs.Numbers.{unless}
 use Rattle.base.proofs.Signed.{plus, minus, difference-plus, difference-minus, difference-fits, fits-64, le-not-lt}
 use Rattle.base.proofs.Tests.{below-same}
-use Rattle.workfunction.specs.Plan.{planRule, slackRule, vouchAt, vouchRule}
+use Rattle.workfunction.specs.Plan.{planRule, slackRule, vouchAt, vouchRule, planCost}
 use Rattle.workfunction.proofs.Plan.{plan-facts}
+use Rattle.workfunction.proofs.Sums.{sum-same}
 use Rattle.book.specs.Book.{follower, weight, weightRule, rangeRule, weightsRefusal}
 
 -- a weight read from the list
@@ -98,7 +99,7 @@ module _ (k n : ℕ) (f g : ℕ → ℕ) (c e : ℕ → ℕ → ℕ) (y z : ℕ 
   same-ranges : rangeRule n y ≡ rangeRule n z
   same-ranges = below-same _ _ n (λ b l. rw (weights b l))
 
-  same-vouching : vouchRule k n f c y ≡ vouchRule k n g e z
+  pub same-vouching : vouchRule k n f c y ≡ vouchRule k n g e z
   unfolding vouchRule vouchAt slackRule
   same-vouching =
       below-same _ _ n (λ p h. below-same (vouchAt k f c y p) (vouchAt k g e z p) n
@@ -119,3 +120,16 @@ module _ (k n : ℕ) (plan : List ℕ) (weights : List ℤ) (c e : ℕ → ℕ �
   pub over-legs : planRule k n (follower plan) ≡ true → ((p b : ℕ) → p < n → b < n → c p b ≡ e p b)
       → weightsRefusal k n plan weights c ≡ weightsRefusal k n plan weights e
   over-legs planned = same-weights plan weights planned (λ p h. refl) (λ b l. refl)
+
+  pub vouch-over-legs : planRule k n (follower plan) ≡ true → ((p b : ℕ) → p < n → b < n → c p b ≡ e p b)
+      → vouchRule k n (follower plan) c (weight weights) ≡ vouchRule k n (follower plan) e (weight weights)
+  vouch-over-legs planned =
+      same-vouching k n (follower plan) (follower plan) c e (weight weights) (weight weights) (plan-facts k n (follower plan) planned .below)
+      (λ p h. refl) (λ b l. refl)
+
+  -- and what the plan costs
+  pub cost-over-legs : planRule k n (follower plan) ≡ true → ((p b : ℕ) → p < n → b < n → c p b ≡ e p b)
+      → planCost n c (follower plan) ≡ planCost n e (follower plan)
+  unfolding planCost
+  cost-over-legs planned same =
+      sum-same n _ _ (λ p h. same p (follower plan p) h (plan-facts k n (follower plan) planned .below p h))

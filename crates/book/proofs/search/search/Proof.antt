@@ -30,14 +30,14 @@ module _ {k N : ℕ} {plan : List ℕ} {weights : List ℤ} {costs : List ℕ} (
   leg : (p b : ℕ) → p < N → b < N → legAt costs p b ≤ 1000000
   leg p b lt less = w .short p b (le-of-lt lt) (le-of-lt less)
 
-  heads-ready : (heads : List ℕ)
+  heads-ready : follower plan N ≡ N → (heads : List ℕ)
       → ((p : ℕ) → p < N → at heads p ≡ headOf (weight weights (follower plan p)) (legAt costs p (follower plan p)))
       → Ready k N (follower plan) (legAt costs) (at heads)
-  heads-ready heads filled =
+  heads-ready self heads filled =
       record {
         most = w .few;
         below = below;
-        new = w .new;
+        new = self;
         cost = w .short;
         high = λ p lt. rw (filled p lt) (head-high _ _ (below-at _ N (w .ranged) _ (below p lt)) (leg p _ lt (below p lt)));
         vouched = λ p q lt less may.
@@ -61,7 +61,7 @@ slice-aggregate-fill-heads c = search needs
 fill-heads-requires : tie.Need-fill-heads-requires
 fill-heads-requires c κs =
     let p = c .before .before .before .before .before .before .pre in
-    (le-of-lt (p .1 .few), (in-range (p .1) (p .0), leg (p .1)))
+    (le-of-lt (p .1 .1 .few), (in-range (p .1 .1) (p .1 .0), leg (p .1 .1)))
 
 mul-row : tie.Need-mul-row
 mul-row c = search needs
@@ -87,8 +87,8 @@ part-begin-end c = search needs
 begin-requires : tie.Need-begin-requires
 begin-requires c κs =
     let a = c .before .before .before .before .before .before .before .before .before .before .before .before in
-    let s = a .pre .0 in
-    let few = a .pre .1 .few in
+    let s = a .pre .1 .0 in
+    let few = a .pre .1 .1 .few in
     let n = a .args .new in
     let long = length-lent (a .args .costs .now) n (272 * n + n + 1) (omega arith) in
     (few, (omega arith, (s .totalled, (s .parented, s .ranked))))
@@ -101,13 +101,13 @@ rounds-requires c κs =
     let b = c .before .before .before .before .before .before .before .before .before .before in
     let f = b .before .before .before .before .before .before in
     let a = f .before .before .before .before .before .before .before in
-    let s = a .pre .0 in
-    let few = a .pre .1 .few in (
+    let s = a .pre .1 .0 in
+    let few = a .pre .1 .1 .few in (
       search needs,
       (
         record { planned = s .planned; costed = s .costed; totalled = search needs; parented = search needs; ranked = search needs },
         (
-          heads-ready (a .pre .1) (f .fill-heads .last .1 .1 .1 .1 .0) (f .fill-heads .ensures),
+          heads-ready (a .pre .1 .1) (a .pre .0) (f .fill-heads .last .1 .1 .1 .1 .0) (f .fill-heads .ensures),
           begun-row (a .args .costs .now) (a .args .new) _ refl (b .begin .ensures),
         ),
       ),

@@ -1,5 +1,5 @@
--- `book::weights::renew` meets its contract: each follower follows one stop, so that no weight is renewed twice, until that of
--- the stand that moves. Assumes nothing.
+-- `book::weights::renew` meets its contract: each follower follows one stop, so that no weight is renewed twice.
+-- Assumes nothing.
 use Prim.Native.Nat.{ℕ, _+_, _-_, _<_, _≤_}
 use mathlib.Core.List.{List}
 use mathlib.Core.Path.{_≡_, refl, _∙_}
@@ -10,9 +10,9 @@ use lib.Seq.{getD-set-same, getD-set-other}
 use mir.Syntax.{w64}
 use mir.Val.{SFits, toZ, ofZ}
 use mir.ValLaws.{toZ-ofZ}
-use native.Mathlib.Decide.{ℕ-discrete}
 use native.Mathlib.Omega.{arith}
 use Rattle.base.proofs.Signed.{neg-difference, difference-fits}
+use Rattle.base.proofs.Tests.{one-more}
 use Rattle.book.specs.Book.{follower, weight}
 use Rattle.book.specs.Legs.{legAt}
 use Rattle.book.specs.Search.{at, netBase, netOf, Totalled, Matched, Reweighed}
@@ -49,46 +49,34 @@ module _ (new : ℕ) (f net : ℕ → ℕ) (weights₀ : List ℤ) where
     renew-turned : Matched new f → p ≤ new → {z : ℤ} → z ≡ negℤ (pos (net p) -ℤ pos netBase) → Renewing (set weights (f p) z) (p + 1)
     renew-turned matched le {z} e =
         let on = matched .below p le in
-        record {
-          weighed = length-set weights (f p) z ∙ r .weighed;
-          renewed = λ q lt. pick q lt (ℕ-discrete q p);
-          past = λ b lt. getD-set-other weights (f p) b z (pos 0) (λ same. omega arith) ∙ r .past b lt;
-        }
-      where
-        pick : (q : ℕ) → q < p + 1 → Dec (q ≡ p) → weight (set weights (f p) z) (f q) ≡ negℤ (pos (net q) -ℤ pos netBase)
-        pick q lt (yes same) =
-            let on = matched .below p le in
-            let kept = r .weighed in
-            rw same (getD-set-same weights (f p) z (pos 0) (omega arith) ∙ e)
-        pick q lt (no m) =
-            getD-set-other weights (f p) (f q) z (pos 0) (λ same. m (matched .only q p (omega arith) le same)) ∙ r .renewed q (omega arith)
-
-    renew-ended : (stand : ℕ) → stand ≤ new → new < p
-        → Reweighed new stand f net (weight weights₀) (weight (set weights stand (pos 0)))
-    renew-ended stand le lt =
         let kept = r .weighed in
         record {
-          moved = getD-set-same weights stand (pos 0) (pos 0) (omega arith);
-          others = λ q h away. getD-set-other weights stand (f q) (pos 0) (pos 0) away ∙ r .renewed q (omega arith);
-          past = λ b l. getD-set-other weights stand b (pos 0) (pos 0) (λ same. omega arith) ∙ r .past b l;
+          weighed = length-set weights (f p) z ∙ r .weighed;
+          renewed = one-more (λ q. weight (set weights (f p) z) (f q) ≡ negℤ (pos (net q) -ℤ pos netBase)) p
+              (getD-set-same weights (f p) z (pos 0) (omega arith) ∙ e)
+              (λ q lt. getD-set-other weights (f p) (f q) z (pos 0) (λ same. let m = matched .only q p (omega arith) le same in omega arith) ∙ r .renewed q lt);
+          past = λ b lt. getD-set-other weights (f p) b z (pos 0) (λ same. omega arith) ∙ r .past b lt;
         }
 
+    renew-ended : new < p → Reweighed new f net (weight weights₀) (weight weights)
+    renew-ended lt = record { renewed = λ q h. r .renewed q (omega arith); past = r .past }
+
 abbrev Inv-loop : tie.InvT-loop
-Inv-loop new stand plan totals costs weights₀ p₀ weights p =
+Inv-loop new plan totals costs weights₀ p₀ weights p =
     Renewing new (follower plan) (netOf (follower plan) (legAt costs) (at totals)) weights₀ weights p
 
 abbrev μ-loop : tie.MeasureT-loop
-μ-loop new stand plan totals costs weights₀ p₀ weights p = new + 1 - p
+μ-loop new plan totals costs weights₀ p₀ weights p = new + 1 - p
 
 -- the follower of p is in range
 follower-on : (l : tie.In-loop Inv-loop μ-loop) → let a = l .before .before .before .before .before in
     follower (a .args .plan .now) (l .before .loop .p) ≤ a .args .new
-follower-on l = l .before .before .before .before .before .pre .1 .1 .1 .1 .1 .1 .0 .below (l .before .loop .p) (l .loop-test .taken)
+follower-on l = l .before .before .before .before .before .pre .1 .1 .1 .1 .1 .0 .below (l .before .loop .p) (l .loop-test .taken)
 
 -- what is known of p's total
 totalled : (l : tie.In-loop Inv-loop μ-loop) → let a = l .before .before .before .before .before .args in
     Totalled (a .new) (follower (a .plan .now)) (legAt (a .costs .now)) (at (a .totals .now))
-totalled l = l .before .before .before .before .before .pre .1 .1 .1 .1 .1 .1 .1
+totalled l = l .before .before .before .before .before .pre .1 .1 .1 .1 .1 .1
 
 -- its net cost
 net-of : tie.In-loop Inv-loop μ-loop → ℕ
@@ -127,7 +115,7 @@ cost-requires : tie.Need-cost-requires Inv-loop μ-loop
 cost-requires c κs =
     let l = c .before .before in
     let pre = l .before .before .before .before .before .pre in
-    (omega (arith, l .loop-test, pre .0), (omega (arith, follower-on l, pre .0), pre .1 .1 .1 .1 .1 .0))
+    (omega (arith, l .loop-test, pre .0), (omega (arith, follower-on l, pre .0), pre .1 .1 .1 .1 .0))
 
 net-cost-requires : tie.Need-net-cost-requires Inv-loop μ-loop
 net-cost-requires c κs =
@@ -138,15 +126,15 @@ net-cost-requires c κs =
 sub-weights : tie.Need-sub-weights Inv-loop μ-loop
 sub-weights c = opposite-fits _ (net-low (c .before .before .before .before)) (called c)
 
-mul-t11 : tie.Need-mul-t11 Inv-loop μ-loop
-mul-t11 c =
+mul-t10 : tie.Need-mul-t10 Inv-loop μ-loop
+mul-t10 c =
     let l = c .before .before .before .before in
     omega (arith, follower-on l, l .before .before .before .before .before .pre .0)
 
 slice-set-from-weights : tie.Need-slice-set-from-weights Inv-loop μ-loop
 slice-set-from-weights c =
     let l = c .before .before .before .before in
-    omega (arith, follower-on l, l .before .before .before .before .before .pre .1 .1 .1 .1 .0, l .before .loop .inv .weighed)
+    omega (arith, follower-on l, l .before .before .before .before .before .pre .1 .1 .1 .0, l .before .loop .inv .weighed)
 
 add-p : tie.Need-add-p Inv-loop μ-loop
 add-p c = search needs
@@ -159,14 +147,8 @@ unfolding net-of
 loop-again c =
     let l = c .before .before .before .before in
     let pre = l .before .before .before .before .before .pre in
-    renew-turned _ _ _ _ (pre .1 .1 .1 .1 .0) (l .before .loop .inv) (pre .1 .1 .1 .1 .1 .1 .0) (l .loop-test .taken)
+    renew-turned _ _ _ _ (pre .1 .1 .1 .0) (l .before .loop .inv) (pre .1 .1 .1 .1 .1 .0) (l .loop-test .taken)
     (opposite-read _ (net-low l) (called c))
-
-mul-weights : tie.Need-mul-weights Inv-loop μ-loop
-mul-weights c = search needs
-
-slice-set-of-weights : tie.Need-slice-set-of-weights Inv-loop μ-loop
-slice-set-of-weights c = search needs
 
 same-length : tie.Need-same-length Inv-loop μ-loop
 same-length c = search needs
@@ -174,7 +156,7 @@ same-length c = search needs
 returns : tie.Need-returns Inv-loop μ-loop
 returns c =
     let pre = c .before .before .before .before .before .pre in
-    renew-ended _ _ _ _ (pre .1 .1 .1 .1 .0) (c .before .loop .inv) _ (pre .1 .0) (c .loop-test .left)
+    renew-ended _ _ _ _ (pre .1 .1 .1 .0) (c .before .loop .inv) (c .loop-test .left)
 
 pub renew-spec : {M : Type 1} → statement M
 renew-spec =
@@ -191,12 +173,10 @@ renew-spec =
     cost-requires
     net-cost-requires
     sub-weights
-    mul-t11
+    mul-t10
     slice-set-from-weights
     add-p
     loop-less
     loop-again
-    mul-weights
-    slice-set-of-weights
     same-length
     returns)

@@ -1,0 +1,111 @@
+-- `book::Book::serve` meets its contract: a refusal of the book, then of the call, goes with the book as it was given, else the call
+-- is served. Assumes nothing.
+use Prim.Native.Nat.{ℕ, zero, suc}
+use mathlib.Core.List.{List}
+use mathlib.Core.Path.{_≡_, refl, sym, ap, _∙_}
+use borrow.Author.Needs.{needs}
+use lib.IntN.{ℤ}
+use Rattle.base.proofs.Numbers.{accepts, refused-number, goes-on, handed-up}
+use Rattle.road.specs.Table.{distance}
+use Rattle.workfunction.specs.Serving.{Served}
+use Rattle.book.specs.declared.Book.{Book}
+use Rattle.book.specs.Serving.{askedRefusal, callRefusal, tidied, bookAfter, Outcome, unserved, outcomeOf, figuresOf, servedOf, Next}
+use Rattle.book.proofs.Book.serve.Statement.{statement}
+use Rattle.book.proofs.Book.serve.Tie as tie
+
+-- the book as it was given goes with a number other than 0
+turned : (m : ℕ) (figures : Served) (new old : Book) → (m ≡ 0 → ⊥)
+    → _≡_ {A = Outcome} (record { number = m; figures = unserved; book = old }) (outcomeOf m figures new old)
+turned zero figures new old h = absurd (h refl)
+turned (suc m) figures new old h = refl
+
+module _ (book : Book) (n : ℕ) (d : ℕ → ℕ → ℕ) (r : ℕ) (o : Outcome) (plan : List ℕ) (weights : List ℤ) where
+  refused : (m : ℕ) → m ≡ callRefusal book n d r → (m ≡ 0 → ⊥) → o ≡ record { number = m; figures = unserved; book = book }
+      → (o ≡ servedOf book n d r plan weights) × (callRefusal book n d r ≡ 0 → Next (o .book) n d)
+  unfolding servedOf
+  refused m e h q = (q ∙ rw (← e) (turned m _ _ book h), λ z. absurd (h (e ∙ z)))
+
+  accepted : callRefusal book n d r ≡ 0
+      → o ≡ record { number = 0; figures = figuresOf book n d r; book = bookAfter (tidied book) (o .figures .crane) r plan weights }
+      → o ≡ servedOf book n d r plan weights
+  unfolding servedOf
+  accepted h e = let crane = ap (λ (x : Outcome). x .figures .crane) e in rw h (e ∙ rw crane)
+
+-- where the test of the book accepted, that of the call decides
+asked : (c : tie.After-test-call) (m : ℕ) → let a = c .before .before .before .before .args in
+    m ≡ askedRefusal (a .places) (a .self .calls) (a .place)
+    → m ≡ callRefusal (a .self) (a .places) (distance (a .t3)) (a .place)
+asked c m q = let t = c .before in goes-on _ _ _ m (t .enum-told .given .1) (t .before .before .test .ensures) q
+
+test-requires : tie.Need-test-requires
+test-requires c κs = search needs
+
+enum-told : tie.Need-enum-told
+enum-told c = search needs
+
+enum-told-2 : tie.Need-enum-told-2
+enum-told-2 c = search needs
+
+turned-down-requires : tie.Need-turned-down-requires
+turned-down-requires c κs = search needs
+
+returns : tie.Need-returns
+returns c =
+    let t = c .before in
+    let e = t .enum-told2 .given in
+    let v = t .before .before .test .ensures in
+    refused _ _ _ _ _ _ _ _ (handed-up _ (e .0 .0) (e .1) _ _ v) (refused-number _ (e .0 .0) (e .1)) (c .turned-down .ensures)
+
+test-call-requires : tie.Need-test-call-requires
+test-call-requires c κs = search needs
+
+enum-told-3 : tie.Need-enum-told-3
+enum-told-3 c = search needs
+
+enum-told-4 : tie.Need-enum-told-4
+enum-told-4 c = search needs
+
+turned-down-requires-2 : tie.Need-turned-down-requires-2
+turned-down-requires-2 c κs = search needs
+
+returns-2 : tie.Need-returns-2
+returns-2 c =
+    let t = c .before in
+    let e = t .enum-told4 .given in
+    let a = t .before .before in
+    refused _ _ _ _ _ _ _ _ (asked a _ (a .test-call .ensures)) (refused-number _ (e .0 .0) (e .1)) (c .turned-down2 .ensures)
+
+-- both tests accepted
+called : (c : tie.After-enum-told3) → let a = c .before .before .before .before .before .before .args in
+    callRefusal (a .self) (a .places) (distance (a .t3)) (a .place) ≡ 0
+called c =
+    let a = c .before .before in
+    sym (asked a 0 (sym (accepts _ _ (c .enum-told3 .given .1) (a .test-call .ensures))))
+
+served-requires : tie.Need-served-requires
+served-requires c κs =
+    let a = c .before .before .before .before .before .before .before .args in
+    (a .places, called (c .before))
+
+returns-3 : tie.Need-returns-3
+returns-3 c =
+    let h = called (c .before .before) in
+    let e = c .served .ensures _ h in
+    (accepted _ _ _ _ _ _ _ h (e .0), λ z. e .1)
+
+pub serve-spec : {M : Type 1} → statement M
+serve-spec =
+    tie.close
+    (tie.spec
+    test-requires
+    enum-told
+    enum-told-2
+    turned-down-requires
+    returns
+    test-call-requires
+    enum-told-3
+    enum-told-4
+    turned-down-requires-2
+    returns-2
+    served-requires
+    returns-3)

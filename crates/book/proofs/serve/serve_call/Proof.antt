@@ -1,0 +1,186 @@
+-- `book::serve::serve_call` meets its contract: the day under way gives what each call requires, whatever its distances.
+-- Assumes nothing.
+use Prim.Native.Nat.{_<_}
+use borrow.Author.Needs.{needs}
+use lib.ListN.{length}
+use native.Mathlib.Nat.{le-trans}
+use native.Mathlib.Omega.{arith}
+use Rattle.workfunction.specs.Plan.{stops}
+use Rattle.book.proofs.Answered.{kept-read, kept-few, kept-witnessed, served-end, served-below, call-answered, unmoved-set}
+use Rattle.book.proofs.serve.serve_call.Statement.{statement}
+use Rattle.book.proofs.serve.serve_call.Tie as tie
+
+-- from the call of `extend` back to where the function begins, and from that of `insert` to that of `extend`
+abbrev begun : tie.After-extend → tie.Start
+begun e = e .before .before .before .before .before .before .before .before
+
+abbrev extended : tie.After-insert → tie.After-extend
+extended i = i .before .before .before .before .before .before
+
+-- there is room for the call
+room : (a : tie.Start) → stops (a .args .starts .now) (a .args .calls .now) < 272
+room a = let p = a .pre .1 .1 .1 in kept-few (p .0) (p .1 .1)
+
+-- the crane sent is one of the cranes
+sent : (i : tie.After-insert) → i .insert .result < length (begun (extended i) .args .starts .now)
+sent i =
+    let e = extended i in
+    let p = begun e .pre .1 .1 in
+    served-end (p .0) (p .1 .0) (p .1 .1 .1) (p .1 .1 .0) (e .extend .ensures) (i .insert .ensures .0)
+
+sent-stands : (i : tie.After-insert) → i .insert .result < length (begun (extended i) .args .stands .now)
+sent-stands i = omega (arith, sent i, begun (extended i) .pre .1 .1 .1 .0 .standing .cranes)
+
+sent-low : (i : tie.After-insert) → i .insert .result < 16
+sent-low i = le-trans (sent i) (begun (extended i) .pre .1 .1 .1 .0 .asked .cranes)
+
+add-new : tie.Need-add-new
+add-new c = search needs
+
+extend-requires : tie.Need-extend-requires
+extend-requires c κs =
+    let a = c .before .before .before .before .before .before .before in
+    let p = a .pre .1 .1 in
+    (p .1 .0 .standing .cranes, (room a, (p .1 .0 .costsLong, kept-read (p .0) (p .1 .0))))
+
+insert-requires : tie.Need-insert-requires
+insert-requires c κs =
+    let e = c .before .before .before .before .before in
+    let p = begun e .pre .1 .1 in
+    let k = p .1 .0 in (
+      k .asked .day .crane,
+      (
+        k .asked .cranes,
+        (
+          omega arith,
+          (
+            k .planLong,
+            (
+              k .weightsLong,
+              (
+                search needs,
+                kept-witnessed (p .0) k (p .1 .1 .1) (p .1 .1 .0) (e .extend .ensures),
+              ),
+            ),
+          ),
+        ),
+      ),
+    )
+
+mul-metres : tie.Need-mul-metres
+mul-metres c = let low = sent-low (c .before .before .before) in search needs
+
+slice-read-metres : tie.Need-slice-read-metres
+slice-read-metres c = sent-stands (c .before .before .before .before)
+
+cast-metres : tie.Need-cast-metres
+cast-metres c = omega (arith, c .slice-known6 .given (c .before .before .before .before .insert .result))
+
+metres-requires : tie.Need-metres-requires
+metres-requires c κs = search needs
+
+mul-stands : tie.Need-mul-stands
+mul-stands c = let low = sent-low (c .before .before .before .before .before) in search needs
+
+slice-write-stands : tie.Need-slice-write-stands
+slice-write-stands c = sent-stands (c .before .before .before .before .before)
+
+mul-weights : tie.Need-mul-weights
+mul-weights c = let low = sent-low (c .before .before .before .before .before) in search needs
+
+slice-set-of-weights : tie.Need-slice-set-of-weights
+slice-set-of-weights c =
+    let i = c .before .before .before .before .before in
+    let low = sent-low i in
+    let long = begun (extended i) .pre .1 .1 .1 .0 .weightsLong in
+    search needs
+
+add-copy-row : tie.Need-add-copy-row
+add-copy-row c = search needs
+
+copy-row-requires : tie.Need-copy-row-requires
+copy-row-requires c κs =
+    let i = c .before .before .before .before .before .before in
+    let a = begun (extended i) in
+    let few = room a in
+    let low = sent-low i in
+    let long = a .pre .1 .1 .1 .0 .costsLong in
+    (omega arith, (few, (omega arith, search needs)))
+
+add-cost : tie.Need-add-cost
+add-cost c =
+    let few = room (begun (extended (c .before .before .before .before .before .before .before .before .before))) in
+    search needs
+
+cost-requires : tie.Need-cost-requires
+cost-requires c κs =
+    let i = c .before .before .before .before .before .before .before .before .before .before .before in
+    let e = extended i in
+    let p = begun e .pre .1 .1 in
+    let k = p .1 .0 in
+    let few = room (begun e) in
+    let planned = k .planLong in
+    let costed = k .costsLong in (
+      omega arith,
+      (
+        search needs,
+        (
+          search needs,
+          served-below (p .0) k (p .1 .1 .1) (p .1 .1 .0) (e .extend .ensures) (i .insert .ensures .0),
+        ),
+      ),
+    )
+
+same-length : tie.Need-same-length
+same-length c = search needs
+
+same-length-2 : tie.Need-same-length-2
+same-length-2 c = search needs
+
+same-length-3 : tie.Need-same-length-3
+same-length-3 c = search needs
+
+same-length-4 : tie.Need-same-length-4
+same-length-4 c = search needs
+
+returns : tie.Need-returns
+returns c =
+    let w = c .before .before .before .before .before in
+    let m = w .before .before in
+    let i = m .before .before .before .before .before in
+    let e = extended i in
+    let a = begun e in
+    let k = a .pre .1 .1 .1 .0 in (
+      λ n d roads kept asked.
+          call-answered roads kept (a .pre .1 .1 .1 .1 .1) asked (e .extend .ensures)
+          (i .insert .last .1 .1 .1 .0) (i .insert .last .1 .1 .1 .1 .0) (w .copy-row .last .1 .1 .1 .0)
+          (i .insert .ensures .0) (w .copy-row .ensures .0) (w .copy-row .ensures .1)
+          (omega (arith, i .insert .kept, k .planLong)) (omega (arith, i .insert .kept, k .weightsLong))
+          (omega (arith, w .copy-row .kept, e .extend .kept, k .costsLong)) (m .metres .ensures) (c .cost .ensures),
+      unmoved-set (i .insert .result) (omega (arith, sent i)) (i .insert .ensures .1),
+    )
+
+pub serve-call-spec : {M : Type 1} → statement M
+serve-call-spec =
+    tie.close
+    (tie.spec
+    add-new
+    extend-requires
+    insert-requires
+    mul-metres
+    slice-read-metres
+    cast-metres
+    metres-requires
+    mul-stands
+    slice-write-stands
+    mul-weights
+    slice-set-of-weights
+    add-copy-row
+    copy-row-requires
+    add-cost
+    cost-requires
+    same-length
+    same-length-2
+    same-length-3
+    same-length-4
+    returns)

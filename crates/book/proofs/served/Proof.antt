@@ -1,0 +1,217 @@
+-- `book::served` meets its contract: the book with 0 past its counts is a day under way, and the book after the call is made of
+-- what serving it gives. Assumes nothing.
+use Prim.Native.Nat.{ℕ, _*_, _<_, _≤_}
+use mathlib.Core.List.{List}
+use mathlib.Core.Path.{_≡_, sym, _∙_}
+use borrow.Author.Needs.{needs}
+use borrow.Author.Tests.{ltb-true}
+use lib.Dec.{ltb}
+use lib.ListN.{length}
+use native.Mathlib.Omega.{arith}
+use Rattle.base.proofs.Numbers.{unless-zero, then-zero, first-of}
+use Rattle.road.specs.Table.{distance, entry}
+use Rattle.book.specs.declared.Book.{Book}
+use Rattle.book.specs.Book.{startsOf, standsOf, requestsOf, SameBook, bookRefusal}
+use Rattle.book.specs.Insertion.{Kept}
+use Rattle.book.specs.Legs.{LegTable}
+use Rattle.book.specs.Serving.{callRefusal}
+use Rattle.book.proofs.Carried.{sound-kept, told-after, next}
+use Rattle.book.proofs.Sound.{Arrays, Fits, fit, starts-long, stands-long, requests-long, stops-long, Sound, book-sound, sound-roads}
+use Rattle.book.proofs.Tidy.{tidy-same, tidy-refusal, tidy-plan, tidy-weights}
+use Rattle.book.proofs.served.Statement.{statement}
+use Rattle.book.proofs.served.Tie as tie
+
+-- what an accepted call says
+record Called (book : Book) (n : ℕ) (d : ℕ → ℕ → ℕ) (r : ℕ) : Type 0 where
+  sound : Sound book n d
+  on : r < n
+  space : book .calls < 256
+
+called : (book : Book) (n : ℕ) (d : ℕ → ℕ → ℕ) (r : ℕ) → callRefusal book n d r ≡ 0 → Called book n d r
+called book n d r h =
+    let tested = then-zero (bookRefusal book n d) _ h in
+    let asked = first-of (ltb r n) 4 _ (tested .1) in
+    record {
+      sound = book-sound (tested .0);
+      on = ltb-true r n (asked .0);
+      space = ltb-true (book .calls) 256 (unless-zero (ltb (book .calls) 256) 6 (asked .1));
+    }
+
+-- the distances
+abbrev roads : tie.Start → ℕ → ℕ → ℕ
+roads s = distance (s .args .table .now)
+
+-- the call is accepted
+abbrev Accepted : tie.Start → ℕ → Type 0
+Accepted s n = callRefusal (s .args .book) n (roads s) (s .args .place) ≡ 0
+
+fits : (s : tie.Start) (n : ℕ) → Accepted s n → Fits (s .args .book)
+fits s n h =
+    let k = called _ n (roads s) _ h .sound .counts in
+    fit (record { starts = search needs; stands = search needs; requests = search needs }) (k .cranes) (k .calls)
+
+-- the book with 0 past its counts
+abbrev tidy : tie.After-tidy → Book
+tidy t = t .tidy .result
+
+arrays : (t : tie.After-tidy) → Arrays (tidy t)
+arrays t = record { starts = search needs; stands = search needs; requests = search needs }
+
+plan-long : (t : tie.After-tidy) → length (tidy t .plan) ≡ 272
+plan-long t = search needs
+
+weights-long : (t : tie.After-tidy) → length (tidy t .weights) ≡ 272
+weights-long t = search needs
+
+same : (t : tie.After-tidy) (n : ℕ) → Accepted (t .before) n → SameBook (tidy t) (t .before .args .book)
+same t n h = tidy-same _ (t .tidy .ensures) (fits (t .before) n h)
+
+tested : (t : tie.After-tidy) (n : ℕ) → let s = t .before in Accepted s n → Called (tidy t) n (roads s) (s .args .place)
+tested t n h =
+    let s = t .before in
+    called (tidy t) n (roads s) (s .args .place) (rw (tidy-refusal _ (t .tidy .ensures) (fits s n h) n (roads s), same t n h .calls) h)
+
+tested-so : (t : tie.After-tidy) → let s = t .before in Called (tidy t) (s .pre .0) (roads s) (s .args .place)
+tested-so t = let s = t .before in tested t (s .pre .0) (s .pre .1)
+
+tidy-fits : (t : tie.After-tidy) → Fits (tidy t)
+tidy-fits t = let k = tested-so t .sound .counts in fit (arrays t) (k .cranes) (k .calls)
+
+-- it is a day under way
+kept : {costs : List ℕ} (t : tie.After-tidy) (n : ℕ) → let s = t .before in Accepted s n → 272 * 272 ≤ length costs
+    → LegTable (entry (roads s)) (startsOf (tidy t)) (requestsOf (tidy t)) (standsOf (tidy t)) costs
+    → Kept n (roads s) (startsOf (tidy t)) (requestsOf (tidy t)) (standsOf (tidy t)) (tidy t .plan) (tidy t .weights) costs
+kept t n h long table =
+    sound-kept (arrays t) (tested t n h .sound) (omega (arith, plan-long t)) (omega (arith, weights-long t)) long table
+
+-- the places at which the arrays are lent
+abbrev at-weights : tie.After-weights → tie.After-tidy
+at-weights c = c .before .before .before .before .before
+
+abbrev at-costs : tie.After-costs → tie.After-tidy
+at-costs c = at-weights (c .before .before .before .before)
+
+abbrev at-fill : tie.After-costs2 → tie.After-tidy
+at-fill c = at-costs (c .before .before)
+
+abbrev at-call : tie.After-costs3 → tie.After-tidy
+at-call c = at-fill (c .before .before .before .before .before .before)
+
+abbrev at-end : tie.After-costs4 → tie.After-tidy
+at-end c = at-call (c .before .before .before .before .before)
+
+tidy-requires : tie.Need-tidy-requires
+tidy-requires c κs = let k = called _ (c .pre .0) (roads c) _ (c .pre .1) .sound .counts in (k .cranes, k .calls)
+
+array-share-prefix-starts : tie.Need-array-share-prefix-starts
+array-share-prefix-starts c = tidy-fits (at-weights c) .starts
+
+slice-aggregate-fill : tie.Need-slice-aggregate-fill
+slice-aggregate-fill c = sym (starts-long (tidy-fits (at-weights (c .before))))
+
+array-share-prefix-requests : tie.Need-array-share-prefix-requests
+array-share-prefix-requests c = tidy-fits (at-weights (c .before)) .requests
+
+slice-aggregate-fill-2 : tie.Need-slice-aggregate-fill-2
+slice-aggregate-fill-2 c = sym (requests-long (tidy-fits (at-weights (c .before .before))))
+
+array-share-prefix-stands : tie.Need-array-share-prefix-stands
+array-share-prefix-stands c = tidy-fits (at-weights (c .before .before)) .stands
+
+slice-aggregate-fill-3 : tie.Need-slice-aggregate-fill-3
+slice-aggregate-fill-3 c = sym (stands-long (tidy-fits (at-weights (c .before .before .before))))
+
+slice-aggregate-fill-4 : tie.Need-slice-aggregate-fill-4
+slice-aggregate-fill-4 c = search needs
+
+fill-requires : tie.Need-fill-requires
+fill-requires c κs =
+    let f = tidy-fits (at-costs c) in
+    let k = tested-so (at-costs c) .sound .counts in
+    (stands-long f ∙ sym (starts-long f), (rw (stops-long f) (omega (arith, k .cranes, k .calls)), search needs))
+
+array-share-prefix-starts-2 : tie.Need-array-share-prefix-starts-2
+array-share-prefix-starts-2 c = tidy-fits (at-fill c) .starts
+
+slice-aggregate-serve-call : tie.Need-slice-aggregate-serve-call
+slice-aggregate-serve-call c = sym (starts-long (tidy-fits (at-fill (c .before))))
+
+array-share-prefix-requests-2 : tie.Need-array-share-prefix-requests-2
+array-share-prefix-requests-2 c = tidy-fits (at-fill (c .before)) .requests
+
+slice-aggregate-serve-call-2 : tie.Need-slice-aggregate-serve-call-2
+slice-aggregate-serve-call-2 c = sym (requests-long (tidy-fits (at-fill (c .before .before))))
+
+array-borrow-prefix-stands : tie.Need-array-borrow-prefix-stands
+array-borrow-prefix-stands c = tidy-fits (at-fill (c .before .before)) .stands
+
+slice-aggregate-serve-call-3 : tie.Need-slice-aggregate-serve-call-3
+slice-aggregate-serve-call-3 c = sym (stands-long (tidy-fits (at-fill (c .before .before .before))))
+
+slice-aggregate-serve-call-4 : tie.Need-slice-aggregate-serve-call-4
+slice-aggregate-serve-call-4 c = sym (plan-long (at-fill (c .before .before .before .before)))
+
+slice-aggregate-serve-call-5 : tie.Need-slice-aggregate-serve-call-5
+slice-aggregate-serve-call-5 c = sym (weights-long (at-fill (c .before .before .before .before .before)))
+
+slice-aggregate-serve-call-6 : tie.Need-slice-aggregate-serve-call-6
+slice-aggregate-serve-call-6 c = search needs
+
+serve-call-requires : tie.Need-serve-call-requires
+serve-call-requires c κs =
+    let t = at-call c in
+    let s = t .before in
+    let k = tested-so t in
+    let f = c .before .before .before .before .before .before .before .fill .ensures in
+    let day = kept t (s .pre .0) (s .pre .1) (search needs) f in
+    (s .pre .0, (roads s, (sound-roads (k .sound), (day, (k .on, rw (requests-long (tidy-fits t)) (k .space))))))
+
+mul-requests : tie.Need-mul-requests
+mul-requests c = omega (arith, tested-so (at-end c) .space)
+
+array-write-requests : tie.Need-array-write-requests
+array-write-requests c = tested-so (at-end c) .space
+
+add-t35 : tie.Need-add-t35
+add-t35 c = omega (arith, tested-so (at-end c) .space)
+
+returns : tie.Need-returns
+returns c = λ n h.
+    let t = at-end c in
+    let k = tested t n h in
+    let e = t .tidy .ensures in
+    let a = c .before .before .before .before in
+    let f = a .before .before .before .before .before .before .before .before .fill .ensures in
+    let day = kept t n h (search needs) f in
+    let answered = a .serve-call .ensures .0 n (roads (t .before)) (sound-roads (k .sound)) day (k .on) in (
+      told-after (arrays t) (k .sound) (k .on) (k .space) answered e (same t n h),
+      next (arrays t) (k .sound) (k .on) (k .space) answered (a .serve-call .ensures .1) (tidy-plan _ e) (tidy-weights _ e),
+    )
+
+pub served-spec : {M : Type 1} → statement M
+served-spec =
+    tie.close
+    (tie.spec
+    tidy-requires
+    array-share-prefix-starts
+    slice-aggregate-fill
+    array-share-prefix-requests
+    slice-aggregate-fill-2
+    array-share-prefix-stands
+    slice-aggregate-fill-3
+    slice-aggregate-fill-4
+    fill-requires
+    array-share-prefix-starts-2
+    slice-aggregate-serve-call
+    array-share-prefix-requests-2
+    slice-aggregate-serve-call-2
+    array-borrow-prefix-stands
+    slice-aggregate-serve-call-3
+    slice-aggregate-serve-call-4
+    slice-aggregate-serve-call-5
+    slice-aggregate-serve-call-6
+    serve-call-requires
+    mul-requests
+    array-write-requests
+    add-t35
+    returns)

@@ -1,0 +1,89 @@
+// Serving calls: one, and all of a day in turn, from a plan with weights that vouch for it.
+use crate::insert;
+use crate::legs;
+use crate::plan;
+use road::Road;
+use road::Table;
+ghost use mathlib.Core.List.{List, []};
+ghost use mathlib.Core.Path.{_≡_};
+ghost use Prim.Native.Nat.{ℕ, _<_, _≤_};
+ghost use lib.ListN.{length, getD};
+ghost use Rattle.road.specs.Table.{distance, entry};
+ghost use Rattle.workfunction.specs.Plan.{stops};
+ghost use Rattle.workfunction.specs.Serving.{Served, serve};
+ghost use Rattle.book.specs.Insertion.{Roads, Kept, Answered, Unmoved, DayAnswered};
+
+// A call that is served: the crane sent, the metres that it drives, the least cost after it.
+pub(crate) struct Step {
+    pub crane: usize,
+    pub metres: u32,
+    pub least: u64,
+}
+
+// Serves a call at `place`, after `calls`.
+pub(crate) fn serve_call(
+    table: &Table,
+    starts: &[u16],
+    calls: &[u16],
+    place: u16,
+    stands: &mut [u16],
+    plan: &mut [u16],
+    weights: &mut [i64],
+    costs: &mut [u32],
+) -> Step
+    requires { ⌜ ((n : ℕ) × ((d : ℕ → ℕ → ℕ) × (Roads n d (entry (distance (now table))) × (Kept n d (now starts) (now calls) (now stands) (now plan) (now weights) (now costs) × ((place < n) × (length (now calls) < 256)))))) ⌝ }
+    ensures { λ r. ⌜ ((n : ℕ) (d : ℕ → ℕ → ℕ) → Roads n d (entry (distance (now (table .entry)))) → Kept n d (now (starts .entry)) (now (calls .entry)) (now (stands .entry)) (now (plan .entry)) (now (weights .entry)) (now (costs .entry)) → place < n → Answered n d (now (starts .entry)) (now (calls .entry)) (now (stands .entry)) place (record { crane = r .crane; metres = r .metres; least = r .least }) (now (stands .exit)) (now (plan .exit)) (now (weights .exit)) (now (costs .exit))) × Unmoved (stops (now (starts .entry)) (now (calls .entry))) (now (plan .entry)) (now (weights .entry)) (now (plan .exit)) (now (weights .exit)) ⌝ }
+{
+    let cranes = starts.len();
+    let new = cranes + calls.len();
+    legs::extend(table, starts, calls, stands, place, costs);
+    let crane = insert::insert(cranes, new, costs, plan, weights);
+    let metres = Road::metres(table, stands[crane] as usize, place as usize);
+    stands[crane] = place;
+    weights[crane] = 0;
+    legs::copy_row(new + 1, new, crane, costs);
+    Step {
+        crane,
+        metres,
+        least: plan::cost(new + 1, plan, costs),
+    }
+}
+
+// Serves all requests in turn, and answers the sum of the drives.
+pub(crate) fn serve_all(
+    table: &Table,
+    starts: &[u16],
+    requests: &[u16],
+    stands: &mut [u16],
+    plan: &mut [u16],
+    weights: &mut [i64],
+    costs: &mut [u32],
+    cranes: &mut [u16],
+    metres: &mut [u32],
+    leasts: &mut [u64],
+) -> u64
+    requires { ⌜ ((n : ℕ) × ((d : ℕ → ℕ → ℕ) × (Roads n d (entry (distance (now table))) × (Kept n d (now starts) [] (now stands) (now plan) (now weights) (now costs) × (((i : ℕ) → i < length (now requests) → getD (now requests) i 0 < n) × ((length (now requests) ≤ 256) × ((length (now requests) ≤ length (now cranes)) × ((length (now requests) ≤ length (now metres)) × (length (now requests) ≤ length (now leasts)))))))))) ⌝ }
+    ensures { λ r. ⌜ ((n : ℕ) (d : ℕ → ℕ → ℕ) → Roads n d (entry (distance (now (table .entry)))) → Kept n d (now (starts .entry)) [] (now (stands .entry)) (now (plan .entry)) (now (weights .entry)) (now (costs .entry)) → ((i : ℕ) → i < length (now (requests .entry)) → getD (now (requests .entry)) i 0 < n) → DayAnswered (length (now (requests .entry))) (serve d n (now (starts .entry)) [] (now (stands .entry)) (now (requests .entry))) (now (cranes .entry)) (now (metres .entry)) (now (leasts .entry)) (now (cranes .exit)) (now (metres .exit)) (now (leasts .exit)) r) ⌝ }
+{
+    let mut driven = 0;
+    let mut i = 0;
+    while i < requests.len() {
+        let place = requests[i];
+        let step = serve_call(
+            table,
+            starts,
+            &requests[..i],
+            place,
+            stands,
+            plan,
+            weights,
+            costs,
+        );
+        cranes[i] = step.crane as u16;
+        metres[i] = step.metres;
+        leasts[i] = step.least;
+        driven += step.metres as u64;
+        i += 1;
+    }
+    driven
+}

@@ -1,0 +1,54 @@
+-- The text that the program prints: "lines, each ended by a line feed (byte 10)".
+use Prim.Native.Nat.{ℕ, zero, suc, _+_, _/_, _%_}
+use mathlib.Core.Bool.{cond}
+use mathlib.Core.List.{List, [], _∷_, _++_}
+use mathlib.Core.Path.{_≡_}
+use lib.Dec.{ltb}
+use lib.ListN.{length}
+use Rattle.base.specs.Lists.{splice}
+
+-- a number in base ten, of at most k digits, the most significant first; no zeros in front, and 0 is one digit
+unfoldable pub upToDigits : ℕ → ℕ → List ℕ
+upToDigits zero n = []
+upToDigits (suc k) n = cond (ltb n 10) ((48 + n) ∷ []) (upToDigits k (n / 10) ++ ((48 + n % 10) ∷ []))
+
+-- 20 digits hold every number of 64 bits
+unfoldable pub decimal : ℕ → List ℕ
+decimal n = upToDigits 20 n
+
+-- a word, and a number behind it
+abbrev pub field : List ℕ → ℕ → List ℕ
+field word n = word ++ decimal n
+
+-- "Each call line has the call's number, the crane, its drive and the least cost after it": behind the words `call `, ` crane `,
+-- ` metres ` and ` least `
+unfoldable pub callLine : ℕ → ℕ → ℕ → ℕ → List ℕ
+callLine i crane metres least =
+    field (99 ∷ 97 ∷ 108 ∷ 108 ∷ 32 ∷ []) i ++ field (32 ∷ 99 ∷ 114 ∷ 97 ∷ 110 ∷ 101 ∷ 32 ∷ []) crane ++
+    field (32 ∷ 109 ∷ 101 ∷ 116 ∷ 114 ∷ 101 ∷ 115 ∷ 32 ∷ []) metres ++ field (32 ∷ 108 ∷ 101 ∷ 97 ∷ 115 ∷ 116 ∷ 32 ∷ []) least ++
+    (10 ∷ [])
+
+-- "the last line has the sum of the drives and the floor": behind the words `driven ` and ` floor `
+unfoldable pub lastLine : ℕ → ℕ → List ℕ
+lastLine driven floor =
+    field (100 ∷ 114 ∷ 105 ∷ 118 ∷ 101 ∷ 110 ∷ 32 ∷ []) driven ++ field (32 ∷ 102 ∷ 108 ∷ 111 ∷ 111 ∷ 114 ∷ 32 ∷ []) floor ++ (10 ∷ [])
+
+-- "A refusal writes one line, `refused N record I`."
+unfoldable pub refusedLine : ℕ → ℕ → List ℕ
+refusedLine number index =
+    field (114 ∷ 101 ∷ 102 ∷ 117 ∷ 115 ∷ 101 ∷ 100 ∷ 32 ∷ []) number ++ field (32 ∷ 114 ∷ 101 ∷ 99 ∷ 111 ∷ 114 ∷ 100 ∷ 32 ∷ []) index ++
+    (10 ∷ [])
+
+-- the lines of the first m calls, call i with the crane f i, the metres g i and the least h i
+unfoldable pub callLines : ℕ → (ℕ → ℕ) → (ℕ → ℕ) → (ℕ → ℕ) → List ℕ
+callLines zero f g h = []
+callLines (suc m) f g h = callLines m f g h ++ callLine m (f m) (g m) (h m)
+
+-- a line for each call, then the last line
+unfoldable pub dayText : ℕ → (ℕ → ℕ) → (ℕ → ℕ) → (ℕ → ℕ) → ℕ → ℕ → List ℕ
+dayText m f g h driven floor = callLines m f g h ++ lastLine driven floor
+
+-- new is written into old from index at: the buffer then, and the index behind what was written
+pub record Put (new old : List ℕ) (at : ℕ) (now : List ℕ) (next : ℕ) : Type 0 where
+  pub buffer : now ≡ splice at new old
+  pub behind : next ≡ at + length new
