@@ -3,7 +3,7 @@
 use Prim.Native.Nat.{ℕ, _+_, _*_, _<_, _≤_}
 use mathlib.Core.Bool.{true}
 use mathlib.Core.List.{List, [], _∷_, _++_}
-use mathlib.Core.Path.{_≡_, refl, sym, ap, _∙_}
+use mathlib.Core.Path.{_≡_, sym, ap, _∙_}
 use lib.IntN.{ℤ, pos}
 use lib.ListN.{length, getD, set, length-set, length-append}
 use lib.Seq.{getD-set-same, getD-set-other}
@@ -84,11 +84,13 @@ module _ {n : ℕ} {d read : ℕ → ℕ → ℕ} (roads : Roads n d read) where
           record {
             few = few;
             weighed = omega arith;
-            planned = kept .planned;
-            ranged = kept .ranged;
-            vouched =
-                vouch-over-legs (length starts) (stops starts calls) plan weights (legAt longer) (legCost d starts calls stands) (kept .planned) leg-early
-                ∙ kept .vouched;
+            certified = record {
+              planned = kept .planned;
+              ranged = kept .ranged;
+              vouched =
+                  vouch-over-legs (length starts) (stops starts calls) plan weights (legAt longer) (legCost d starts calls stands) (kept .planned)
+                  leg-early ∙ kept .vouched;
+            };
             short = longer-short;
           }
 

@@ -1,34 +1,33 @@
 -- A day served call by call: what holds after each call, what the calls give together, and the fresh book with which it begins.
 -- Assumes nothing.
-use Prim.Native.Nat.{ℕ, _+_, _*_, _<_, _≤_, zero-le}
-use mathlib.Core.List.{List, [], _∷_, _++_, List·Memᴰ·not-nil}
+use Prim.Native.Nat.{ℕ, _+_, _*_, _<_, _≤_}
+use mathlib.Core.List.{List, [], _∷_, _++_}
 use mathlib.Core.Path.{_≡_, refl, sym, ap, _∙_}
-use lib.IntN.{ℤ, pos}
-use lib.ListN.{length, getD, set, take, drop, replicate, length-append, length-replicate}
+use lib.IntN.{ℤ}
+use lib.ListN.{length, getD, set, take, drop, replicate}
 use lib.Seq.{drop-cons, take-suc, drop-drop, getD-drop, length-take-le}
 use native.Mathlib.Nat.{add-zero, le-antisymm}
 use native.Mathlib.Numerals.{add-one}
 use native.Mathlib.Omega.{arith}
-use Rattle.base.specs.Lists.{padded}
-use Rattle.base.proofs.Lists.{length-upTo, take-padded, take-upTo, drop-replicate, Filled, fill-begun, fill-turned, fill-ended}
+use Rattle.base.proofs.Lists.{take-kept, drop-replicate, Filled, fill-begun, fill-turned, fill-ended}
 use Rattle.road.specs.Table.{entry}
 use Rattle.dayfile.specs.declared.Day.{Day}
-use Rattle.dayfile.specs.Day.{startsOf, requestsOf, dayRefusal}
+use Rattle.dayfile.specs.Day.{startsOf as dayStarts, requestsOf as dayRequests, dayRefusal}
 use Rattle.dayfile.proofs.Limits.{Tested, day-tested, stop-below}
 use Rattle.workfunction.specs.Choice.{moved, choice}
 use Rattle.workfunction.specs.Lists.{sumBelow}
 use Rattle.workfunction.specs.Movement.{floor}
-use Rattle.workfunction.specs.Plan.{legCost}
 use Rattle.workfunction.specs.Serving.{Served, servedBy, served, serve}
 use Rattle.workfunction.proofs.Choice.{choice-below}
-use Rattle.workfunction.proofs.Stops.{stop-placed}
 use Rattle.workfunction.proofs.Sums.{sum-last}
+use Rattle.book.specs.declared.Book.{Book}
+use Rattle.book.specs.Book.{startsOf, standsOf, requestsOf, freshBook}
 use Rattle.book.specs.Insertion.{Roads, Asked, Kept, Answered, DayAnswered}
 use Rattle.book.specs.Legs.{LegTable}
 use Rattle.book.specs.Serving.{unserved, nth, DayFigures, servedDay}
-use Rattle.book.proofs.Fresh.{fresh-plan, fresh-range, fresh-vouch}
-use Rattle.book.proofs.Roads.{roads}
-use Rattle.book.proofs.Sound.{placed}
+use Rattle.book.proofs.Carried.{sound-kept}
+use Rattle.book.proofs.Fresh.{fresh-sound}
+use Rattle.book.proofs.Sound.{Arrays, Fits, placed, Sound, book-sound, sound-fits, sound-asked}
 
 -- ---- call by call
 
@@ -112,113 +111,73 @@ crane-few ways kept asked answer =
     let few = kept .asked .cranes in
     rw (answer .figures) (omega arith)
 
--- ---- the fresh book of cranes at their starts
+-- ---- a day that is accepted, with its fresh book
 
-module _ {n : ℕ} {d read : ℕ → ℕ → ℕ} (ways : Roads n d read) {starts : List ℕ} (asked : Asked n starts []) where
-  abbrev k : ℕ
-  k = length starts
-
-  no-way : (p : ℕ) → p < k → legCost d starts [] starts p p ≡ 0
-  unfolding legCost
-  no-way p lt = ways .laws .self _ (stop-placed (asked .day) p (rw (add-zero k) lt))
-
-  table-read : {costs : List ℕ} → LegTable read starts [] starts costs → LegTable d starts [] starts costs
-  unfolding legCost
-  table-read table = record {
-    leg = λ p b h l. table .leg p b h l ∙ ways .reads _ _ (stop-placed (asked .day) p h) (stop-placed (asked .day) b l);
-  }
-
-  pub kept-begun : {costs : List ℕ} → LegTable read starts [] starts costs → 272 * 272 ≤ length costs
-      → Kept n d starts [] starts (padded 272 k (λ j. j) 0) (replicate 272 (pos 0)) costs
-  kept-begun table long =
-      let few = asked .cranes in
-      record {
-        asked = asked;
-        standing = asked .day .started;
-        planned = rw (add-zero k) (fresh-plan k);
-        ranged = rw (add-zero k) (fresh-range k (omega arith));
-        vouched = rw (add-zero k) (fresh-vouch k (omega arith) _ no-way);
-        table = table-read table;
-        planLong = simp (length-append, length-upTo, length-replicate) (omega arith);
-        weightsLong = simp length-replicate (omega arith);
-        costsLong = long;
-      }
-
--- ---- a day that is accepted
-
--- no refusal applies to the day, and its arrays have the lengths of their types
-pub record Accepted (day : Day) (d : ℕ → ℕ → ℕ) : Type 0 where
+-- no refusal applies to the day, the book is its fresh one, and the arrays have the lengths of their types
+pub record Begun (day : Day) (d : ℕ → ℕ → ℕ) (book : Book) : Type 0 where
   pub none : dayRefusal day d ≡ 0
   pub starts : length (day .starts) ≡ 16
   pub requests : length (day .requests) ≡ 256
+  pub fresh : book ≡ freshBook (day .cranes) (day .starts)
+  pub arrays : Arrays book
+  pub plan : length (book .plan) ≡ 272
+  pub weights : length (book .weights) ≡ 272
 
-module _ {day : Day} {d : ℕ → ℕ → ℕ} (given : Accepted day d) where
-  pub tests : Tested day d
+module _ {day : Day} {d : ℕ → ℕ → ℕ} {book : Book} (given : Begun day d book) where
+  tests : Tested day d
   tests = day-tested day d (given .none)
 
-  pub starts-fit : day .cranes ≤ length (day .starts)
-  starts-fit = rw (given .starts) (tests .counts .cranes)
+  pub day-sound : Sound book (day .places) d
+  day-sound = book-sound (rw (given .fresh) (fresh-sound day d (given .none) (given .starts)))
 
-  pub requests-fit : day .calls ≤ length (day .requests)
-  requests-fit = rw (given .requests) (tests .counts .calls)
+  pub day-fits : Fits book
+  day-fits = sound-fits (given .arrays) day-sound
 
-  pub starts-long : length (startsOf day) ≡ day .cranes
-  starts-long = length-take-le (day .cranes) (day .starts) starts-fit
+  pub calls-fit : day .calls ≤ length (day .requests)
+  calls-fit = rw (given .requests) (tests .counts .calls)
 
-  pub requests-long : length (requestsOf day) ≡ day .calls
-  requests-long = length-take-le (day .calls) (day .requests) requests-fit
+  pub calls-long : length (dayRequests day) ≡ day .calls
+  calls-long = length-take-le (day .calls) (day .requests) calls-fit
 
-  pub day-roads : Roads (day .places) d (entry d)
-  day-roads = roads (day .places) d (tests .legs) (tests .triangles) (tests .counts .places)
+  pub day-called : (i : ℕ) → i < length (dayRequests day) → getD (dayRequests day) i 0 < day .places
+  day-called = stop-below (day .places) (dayRequests day) (tests .requests)
 
-  pub day-called : (i : ℕ) → i < length (requestsOf day) → getD (requestsOf day) i 0 < day .places
-  day-called = stop-below (day .places) (requestsOf day) (tests .requests)
+  pub day-asked : Asked (day .places) (startsOf book) (dayRequests day)
+  day-asked =
+      let s = sound-asked (given .arrays) day-sound in
+      record {
+        day = record { crane = s .day .crane; started = s .day .started; called = placed (day .places) (dayRequests day) (tests .requests) };
+        cranes = s .cranes;
+        few = rw calls-long (tests .counts .calls);
+      }
 
-  pub day-asked : Asked (day .places) (startsOf day) (requestsOf day)
-  day-asked = record {
-    day = record {
-      crane = rw starts-long (tests .counts .crane);
-      started = record { cranes = refl; placed = placed (day .places) (startsOf day) (tests .starts) };
-      called = placed (day .places) (requestsOf day) (tests .requests);
-    };
-    cranes = rw starts-long (tests .counts .cranes);
-    few = rw requests-long (tests .counts .calls);
-  }
+  no-calls : requestsOf book ≡ []
+  unfolding freshBook
+  no-calls = rw (given .fresh)
 
-  -- no call is asked yet
-  day-fresh : Asked (day .places) (startsOf day) []
-  day-fresh = record {
-    day = record { crane = day-asked .day .crane; started = day-asked .day .started; called = λ m. absurd (List·Memᴰ·not-nil m) };
-    cranes = day-asked .cranes;
-    few = zero-le;
-  }
+  pub day-kept : {costs : List ℕ} → 272 * 272 ≤ length costs
+      → LegTable (entry d) (startsOf book) (requestsOf book) (standsOf book) costs
+      → Kept (day .places) d (startsOf book) [] (standsOf book) (book .plan) (book .weights) costs
+  day-kept long table =
+      rw no-calls at (sound-kept (given .arrays) day-sound (omega (arith, given .plan)) (omega (arith, given .weights)) long table)
 
   -- each crane stands at its start
-  module _ {stands : List ℕ} (there : stands ≡ padded 16 (day .cranes) (λ j. getD (day .starts) j 0) 0) where
-    at-starts : take (day .cranes) stands ≡ startsOf day
-    at-starts = rw there (take-padded 16 (day .cranes) _ 0 ∙ sym (take-upTo (day .cranes) (day .starts) 0 starts-fit))
+  at-starts : startsOf book ≡ dayStarts day
+  unfolding freshBook
+  at-starts = rw (given .fresh) (take-kept 16 (day .cranes) (day .starts) 0 (rw (given .starts) (tests .counts .cranes)))
 
-    pub stands-fit : day .cranes ≤ length stands
-    stands-fit = let few = tests .counts .cranes in rw there (simp (length-append, length-upTo, length-replicate) (omega arith))
+  at-stands : standsOf book ≡ startsOf book
+  unfolding freshBook
+  at-stands = rw (given .fresh)
 
-    pub stands-long : length (take (day .cranes) stands) ≡ day .cranes
-    stands-long = rw at-starts starts-long
-
-    pub day-kept : {plan costs : List ℕ} → plan ≡ padded 272 (day .cranes) (λ j. j) 0
-        → LegTable (entry d) (startsOf day) [] (take (day .cranes) stands) costs → 272 * 272 ≤ length costs
-        → Kept (day .places) d (startsOf day) [] (take (day .cranes) stands) plan (replicate 272 (pos 0)) costs
-    day-kept {plan} follow table long =
-        let on : plan ≡ padded 272 (length (startsOf day)) (λ j. j) 0 = rw starts-long follow in
-        rw (at-starts, on) (kept-begun day-roads day-fresh (rw at-starts at table) long)
-
-    -- what the calls give together, with the floor
-    pub day-figures : {sent metres leasts : List ℕ} {driven low : ℕ}
-        → DayAnswered (length (requestsOf day)) (serve d (day .places) (startsOf day) [] (take (day .cranes) stands) (requestsOf day))
-        (replicate 256 0) (replicate 256 0) (replicate 256 0) sent metres leasts driven
-        → low ≡ floor d (day .places) (startsOf day) (requestsOf day)
-        → _≡_ {A = DayFigures}
-        (record { number = 0; calls = day .calls; cranes = sent; metres = metres; leasts = leasts; driven = driven; floor = low })
-        (servedDay day d)
-    unfolding servedDay
-    day-figures told least =
-        rw (given .none, told .sent, told .drives, told .costs, told .sum, least, at-starts, requests-long) (simp drop-replicate)
+  -- what the calls give together, with the floor
+  pub day-figures : {sent metres leasts : List ℕ} {driven low : ℕ}
+      → DayAnswered (length (dayRequests day)) (serve d (day .places) (startsOf book) [] (standsOf book) (dayRequests day))
+      (replicate 256 0) (replicate 256 0) (replicate 256 0) sent metres leasts driven
+      → low ≡ floor d (day .places) (startsOf book) (dayRequests day)
+      → _≡_ {A = DayFigures}
+      (record { number = 0; calls = day .calls; cranes = sent; metres = metres; leasts = leasts; driven = driven; floor = low })
+      (servedDay day d)
+  unfolding servedDay
+  day-figures told least =
+      rw (given .none, told .sent, told .drives, told .costs, told .sum, least, at-stands, at-starts, calls-long) (simp drop-replicate)

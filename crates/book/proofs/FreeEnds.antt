@@ -15,8 +15,9 @@ use Rattle.workfunction.specs.Plan.{planCost, stops, freeCost}
 use Rattle.workfunction.proofs.Stops.{stop-placed}
 use Rattle.workfunction.proofs.Witness.{witness-floor}
 use Rattle.book.specs.Book.{follower, weight}
-use Rattle.book.specs.Insertion.{Roads, Asked, Inserting}
+use Rattle.book.specs.Insertion.{Roads, Asked}
 use Rattle.book.specs.Legs.{legAt, Rows}
+use Rattle.book.specs.Search.{Certified}
 use Rattle.book.proofs.Fresh.{fresh-plan, fresh-range, fresh-vouch}
 use Rattle.book.proofs.weights.Laws.{vouch-over-legs, cost-over-legs}
 
@@ -46,7 +47,7 @@ module _ {n : ℕ} {d read : ℕ → ℕ → ℕ} (roads : Roads n d read) {star
   free-end p h = let l : p < stops starts calls = omega arith in free-leg p p l l ∙ rw (lt-ltb p (length starts) h)
 
   -- without a call
-  pub free-begun : Inserting (length starts) (length starts) (padded 272 (length starts) (λ j. j) 0) (replicate 272 (pos 0)) costs
+  pub free-begun : Certified (length starts) (length starts) (padded 272 (length starts) (λ j. j) 0) (replicate 272 (pos 0)) costs
   free-begun =
       let most : length starts ≤ 272 = omega (arith, asked .cranes) in
       record {
@@ -56,7 +57,7 @@ module _ {n : ℕ} {d read : ℕ → ℕ → ℕ} (roads : Roads n d read) {star
       }
 
   -- with all calls
-  pub free-floor : (plan : List ℕ) (weights : List ℤ) → Inserting (length starts) (stops starts calls) plan weights costs
+  pub free-floor : (plan : List ℕ) (weights : List ℤ) → Certified (length starts) (stops starts calls) plan weights costs
       → planCost (stops starts calls) (legAt costs) (follower plan) ≡ floor d n starts calls
   free-floor plan weights done =
       let N = stops starts calls in

@@ -16,7 +16,7 @@ use Rattle.workfunction.specs.Plan.{planRule, vouchRule, stops, legCost}
 use Rattle.workfunction.specs.Position.{Position}
 use Rattle.workfunction.specs.Serving.{Served, served}
 use Rattle.book.specs.Book.{follower, weight, rangeRule}
-use Rattle.book.specs.Legs.{legAt, LegTable}
+use Rattle.book.specs.Legs.{LegTable}
 use Rattle.book.specs.Search.{netOf, Searched, Reweighed}
 use Rattle.book.specs.Serving.{nth}
 
@@ -44,12 +44,6 @@ pub record Inserted (k N : ℕ) (f : ℕ → ℕ) (c : ℕ → ℕ → ℕ) (s :
 pub record Unmoved (N : ℕ) (plan : List ℕ) (weights : List ℤ) (plan' : List ℕ) (weights' : List ℤ) : Type 0 where
   pub followers : (p : ℕ) → N < p → follower plan' p ≡ follower plan p
   pub weighed : (b : ℕ) → N < b → weight weights' b ≡ weight weights b
-
--- a plan of N stops with weights that vouch for it over the table's legs
-pub record Inserting (k N : ℕ) (plan : List ℕ) (weights : List ℤ) (costs : List ℕ) : Type 0 where
-  pub planned : planRule k N (follower plan) ≡ true
-  pub ranged : rangeRule N (weight weights) ≡ true
-  pub vouched : vouchRule k N (follower plan) (legAt costs) (weight weights) ≡ true
 
 -- distances d between n places, and what is read off their table
 pub record Roads (n : ℕ) (d read : ℕ → ℕ → ℕ) : Type 0 where

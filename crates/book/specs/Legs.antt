@@ -1,8 +1,9 @@
 -- The leg costs of a book as one table of numbers, and what the tests of weights stand on: no public contract cites these.
 use Prim.Native.Nat.{ℕ, _+_, _*_, _<_, _≤_}
-use mathlib.Core.Bool.{true}
+use mathlib.Core.Bool.{true, cond}
 use mathlib.Core.List.{List}
 use mathlib.Core.Path.{_≡_}
+use lib.Dec.{ltb}
 use lib.IntN.{ℤ}
 use lib.ListN.{length, getD}
 use Rattle.workfunction.specs.Plan.{stops, legCost}
@@ -19,6 +20,10 @@ pub record Rows (n m : ℕ) (c : ℕ → ℕ → ℕ) (costs : List ℕ) : Type 
 -- those of all legs of a book
 abbrev pub LegTable : (ℕ → ℕ → ℕ) → List ℕ → List ℕ → List ℕ → List ℕ → Type 0
 LegTable d starts calls stands = Rows (stops starts calls) (stops starts calls) (legCost d starts calls stands)
+
+-- rows below `first` as they were
+abbrev pub fromRow : ℕ → (ℕ → ℕ → ℕ) → (ℕ → ℕ → ℕ) → ℕ → ℕ → ℕ
+fromRow first old c p b = cond (ltb b first) (old p b) (c p b)
 
 -- n followers in range, with their weights and leg costs
 pub record Followed (n : ℕ) (plan : List ℕ) (weights : List ℤ) (costs : List ℕ) : Type 0 where

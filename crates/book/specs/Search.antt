@@ -88,13 +88,17 @@ pub record Sized (N : ℕ) (plan costs totals parents ranks : List ℕ) : Type 0
   pub parented : N < length parents
   pub ranked : N < length ranks
 
--- what the search begins from: a plan of N stops with weights that vouch for it over the table's legs
-pub record Witnessed (k N : ℕ) (plan : List ℕ) (weights : List ℤ) (costs : List ℕ) : Type 0 where
-  pub few : N < 272
-  pub weighed : N ≤ length weights
+-- a plan of N stops with weights that vouch for it over the table's legs
+pub record Certified (k N : ℕ) (plan : List ℕ) (weights : List ℤ) (costs : List ℕ) : Type 0 where
   pub planned : planRule k N (follower plan) ≡ true
   pub ranged : rangeRule N (weight weights) ≡ true
   pub vouched : vouchRule k N (follower plan) (legAt costs) (weight weights) ≡ true
+
+-- what the search begins from: such a plan, with room for one more call, the legs of which are within the limit too
+pub record Witnessed (k N : ℕ) (plan : List ℕ) (weights : List ℤ) (costs : List ℕ) : Type 0 where
+  pub few : N < 272
+  pub weighed : N ≤ length weights
+  pub certified : Certified k N plan weights costs
   pub short : (p b : ℕ) → p ≤ N → b ≤ N → legAt costs p b ≤ 1000000
 
 -- a stop's total is its net cost and the leg to its follower

@@ -1,25 +1,24 @@
 // The book with which a day begins, the book of zeros that goes with a refusal, and a book with 0 past its counts.
 use crate::Book;
+ghost use mathlib.Core.List.{_++_};
 ghost use mathlib.Core.Path.{_≡_};
 ghost use Prim.Native.Nat.{_≤_};
 ghost use lib.IntN.{pos};
-ghost use lib.ListN.{getD};
-ghost use Rattle.base.specs.Lists.{padded};
-ghost use Rattle.book.specs.Book.{follower, weight, freshBook, emptyBook};
+ghost use lib.ListN.{length, getD, drop};
+ghost use Rattle.base.specs.Lists.{upTo, padded};
+ghost use Rattle.book.specs.Book.{weight, freshBook, emptyBook};
 ghost use Rattle.book.specs.Serving.{tidied};
 
-// The places of so many cranes, 0 past them.
-pub(crate) fn places(cranes: usize, starts: [u16; Book::CRANES]) -> [u16; Book::CRANES]
-    requires { ⌜ cranes ≤ 16 ⌝ }
-    ensures { λ r. ⌜ r ≡ padded 16 cranes (λ j. getD starts j 0) 0 ⌝ }
+// The first entries of a list, into the front of another.
+fn keep(count: usize, list: &[u16], kept: &mut [u16])
+    requires { ⌜ (count ≤ length (now list)) × (count ≤ length (now kept)) ⌝ }
+    ensures { λ _. ⌜ now (kept .exit) ≡ upTo count (λ i. getD (now (list .entry)) i 0) ++ drop count (now (kept .entry)) ⌝ }
 {
-    let mut places = [0; Book::CRANES];
-    let mut j = 0;
-    while j < cranes {
-        places[j] = starts[j];
-        j += 1;
+    let mut i = 0;
+    while i < count {
+        kept[i] = list[i];
+        i += 1;
     }
-    places
 }
 
 // The plan of so many cranes without a call, in which each start is followed by its crane's stand, 0 past them.
@@ -41,7 +40,8 @@ pub(crate) fn book(cranes: usize, starts: [u16; Book::CRANES]) -> Book
     requires { ⌜ cranes ≤ 16 ⌝ }
     ensures { λ r. ⌜ r ≡ freshBook cranes starts ⌝ }
 {
-    let places = places(cranes, starts);
+    let mut places = [0; Book::CRANES];
+    keep(cranes, &starts[..], &mut places[..]);
     Book {
         cranes,
         calls: 0,
@@ -68,36 +68,8 @@ pub(crate) fn none() -> Book
     }
 }
 
-// The places of so many calls, 0 past them.
-pub(crate) fn requests(calls: usize, requests: [u16; Book::CALLS]) -> [u16; Book::CALLS]
-    requires { ⌜ calls ≤ 256 ⌝ }
-    ensures { λ r. ⌜ r ≡ padded 256 calls (λ i. getD requests i 0) 0 ⌝ }
-{
-    let mut places = [0; Book::CALLS];
-    let mut i = 0;
-    while i < calls {
-        places[i] = requests[i];
-        i += 1;
-    }
-    places
-}
-
-// The followers of so many stops, 0 past them.
-pub(crate) fn followers(stops: usize, plan: [u16; Book::STOPS]) -> [u16; Book::STOPS]
-    requires { ⌜ stops ≤ 272 ⌝ }
-    ensures { λ r. ⌜ r ≡ padded 272 stops (follower plan) 0 ⌝ }
-{
-    let mut followers = [0; Book::STOPS];
-    let mut p = 0;
-    while p < stops {
-        followers[p] = plan[p];
-        p += 1;
-    }
-    followers
-}
-
 // The weights of so many followers, 0 past them.
-pub(crate) fn weights(stops: usize, weights: [i64; Book::STOPS]) -> [i64; Book::STOPS]
+fn weights(stops: usize, weights: [i64; Book::STOPS]) -> [i64; Book::STOPS]
     requires { ⌜ stops ≤ 272 ⌝ }
     ensures { λ r. ⌜ r ≡ padded 272 stops (weight weights) (pos 0) ⌝ }
 {
@@ -118,18 +90,21 @@ pub(crate) fn tidy(book: Book) -> Book
     let cranes = book.cranes;
     let calls = book.calls;
     let stops = cranes + calls;
-    let starts = book.starts;
-    let stands = book.stands;
-    let asked = book.requests;
-    let plan = book.plan;
-    let old = book.weights;
+    let mut starts = [0; Book::CRANES];
+    let mut stands = [0; Book::CRANES];
+    let mut requests = [0; Book::CALLS];
+    let mut plan = [0; Book::STOPS];
+    keep(cranes, &book.starts[..], &mut starts[..]);
+    keep(cranes, &book.stands[..], &mut stands[..]);
+    keep(calls, &book.requests[..], &mut requests[..]);
+    keep(stops, &book.plan[..], &mut plan[..]);
     Book {
         cranes,
         calls,
-        starts: places(cranes, starts),
-        stands: places(cranes, stands),
-        requests: requests(calls, asked),
-        plan: followers(stops, plan),
-        weights: weights(stops, old),
+        starts,
+        stands,
+        requests,
+        plan,
+        weights: weights(stops, book.weights),
     }
 }

@@ -4,15 +4,12 @@ use crate::choice;
 use crate::flip;
 use crate::search;
 use crate::weights;
-ghost use mathlib.Core.Bool.{true};
-ghost use mathlib.Core.Path.{_≡_};
 ghost use Prim.Native.Nat.{ℕ, _*_, _<_, _≤_};
 ghost use lib.ListN.{length, set};
-ghost use Rattle.workfunction.specs.Plan.{planRule, vouchRule};
-ghost use Rattle.book.specs.Book.{follower, weight, rangeRule};
+ghost use Rattle.book.specs.Book.{follower, weight};
 ghost use Rattle.book.specs.Legs.{legAt};
-ghost use Rattle.book.specs.Search.{Witnessed};
-ghost use Rattle.book.specs.Insertion.{Inserted, Unmoved, Inserting};
+ghost use Rattle.book.specs.Search.{Certified, Witnessed};
+ghost use Rattle.book.specs.Insertion.{Inserted, Unmoved};
 
 // Takes in the call of the number `new`, and answers the end that now follows it.
 pub(crate) fn insert(
@@ -64,8 +61,8 @@ pub(crate) fn insert_all(
     plan: &mut [u16],
     weights: &mut [i64],
 )
-    requires { ⌜ (0 < cranes) × ((cranes ≤ 16) × ((cranes ≤ stops) × ((stops ≤ 272) × ((272 ≤ length (now plan)) × ((272 ≤ length (now weights)) × ((272 * 272 ≤ length (now costs)) × (((p b : ℕ) → p < stops → b < stops → legAt (now costs) p b ≤ 1000000) × Inserting cranes cranes (now plan) (now weights) (now costs)))))))) ⌝ }
-    ensures { λ _. ⌜ Inserting cranes stops (now (plan .exit)) (now (weights .exit)) (now (costs .entry)) ⌝ }
+    requires { ⌜ (0 < cranes) × ((cranes ≤ 16) × ((cranes ≤ stops) × ((stops ≤ 272) × ((272 ≤ length (now plan)) × ((272 ≤ length (now weights)) × ((272 * 272 ≤ length (now costs)) × (((p b : ℕ) → p < stops → b < stops → legAt (now costs) p b ≤ 1000000) × Certified cranes cranes (now plan) (now weights) (now costs)))))))) ⌝ }
+    ensures { λ _. ⌜ Certified cranes stops (now (plan .exit)) (now (weights .exit)) (now (costs .entry)) ⌝ }
 {
     let mut new = cranes;
     while new < stops {

@@ -8,8 +8,8 @@ ghost use Prim.Native.Nat.{ℕ, _+_, _*_, _<_, _≤_};
 ghost use lib.ListN.{length, getD};
 ghost use Rattle.base.specs.Lists.{upTo};
 ghost use Rattle.road.specs.Table.{distance, entry};
-ghost use Rattle.workfunction.specs.Plan.{stops, place, freeCost};
-ghost use Rattle.book.specs.Legs.{legAt, Rows, LegTable};
+ghost use Rattle.workfunction.specs.Plan.{stops, place, legCost, freeCost};
+ghost use Rattle.book.specs.Legs.{legAt, Rows, fromRow, LegTable};
 
 // The length of a row.
 pub(crate) const ROW: usize = Book::STOPS;
@@ -48,13 +48,20 @@ fn fill_row(table: &Table, starts: &[u16], calls: &[u16], to: usize, row: &mut [
     }
 }
 
-// The whole table of a book's legs.
-pub(crate) fn fill(table: &Table, starts: &[u16], calls: &[u16], stands: &[u16], costs: &mut [u32])
-    requires { ⌜ (length (now stands) ≡ length (now starts)) × ((stops (now starts) (now calls) ≤ 272) × (272 * 272 ≤ length (now costs))) ⌝ }
-    ensures { λ _. ⌜ LegTable (entry (distance (now (table .entry)))) (now (starts .entry)) (now (calls .entry)) (now (stands .entry)) (now (costs .exit)) ⌝ }
+// The rows of the followers from `first` on.
+fn fill_rows(
+    table: &Table,
+    starts: &[u16],
+    calls: &[u16],
+    stands: &[u16],
+    first: usize,
+    costs: &mut [u32],
+)
+    requires { ⌜ (length (now stands) ≡ length (now starts)) × ((first ≤ length (now stands)) × ((stops (now starts) (now calls) ≤ 272) × (272 * 272 ≤ length (now costs)))) ⌝ }
+    ensures { λ _. ⌜ Rows (stops (now (starts .entry)) (now (calls .entry))) (stops (now (starts .entry)) (now (calls .entry))) (fromRow first (legAt (now (costs .entry))) (legCost (entry (distance (now (table .entry)))) (now (starts .entry)) (now (calls .entry)) (now (stands .entry)))) (now (costs .exit)) ⌝ }
 {
     let stops = starts.len() + calls.len();
-    let mut b = 0;
+    let mut b = first;
     while b < stops {
         let at = ROW * b;
         fill_row(
@@ -66,6 +73,14 @@ pub(crate) fn fill(table: &Table, starts: &[u16], calls: &[u16], stands: &[u16],
         );
         b += 1;
     }
+}
+
+// The whole table of a book's legs.
+pub(crate) fn fill(table: &Table, starts: &[u16], calls: &[u16], stands: &[u16], costs: &mut [u32])
+    requires { ⌜ (length (now stands) ≡ length (now starts)) × ((stops (now starts) (now calls) ≤ 272) × (272 * 272 ≤ length (now costs))) ⌝ }
+    ensures { λ _. ⌜ LegTable (entry (distance (now (table .entry)))) (now (starts .entry)) (now (calls .entry)) (now (stands .entry)) (now (costs .exit)) ⌝ }
+{
+    fill_rows(table, starts, calls, stands, 0, costs);
 }
 
 // The column of the stop p, at the place `from`: the metres from it to each follower below it.
@@ -125,17 +140,5 @@ pub(crate) fn fill_free(table: &Table, starts: &[u16], calls: &[u16], costs: &mu
     requires { ⌜ (stops (now starts) (now calls) ≤ 272) × ((272 * 272 ≤ length (now costs)) × ((i : ℕ) → getD (now costs) i 0 ≡ 0)) ⌝ }
     ensures { λ _. ⌜ Rows (stops (now (starts .entry)) (now (calls .entry))) (stops (now (starts .entry)) (now (calls .entry))) (freeCost (entry (distance (now (table .entry)))) (now (starts .entry)) (now (calls .entry))) (now (costs .exit)) ⌝ }
 {
-    let stops = starts.len() + calls.len();
-    let mut b = starts.len();
-    while b < stops {
-        let at = ROW * b;
-        fill_row(
-            table,
-            starts,
-            calls,
-            place_of(starts, calls, b),
-            &mut costs[at..at + stops],
-        );
-        b += 1;
-    }
+    fill_rows(table, starts, calls, starts, starts.len(), costs);
 }

@@ -18,12 +18,14 @@ use road::Road;
 use road::Table;
 ghost use mathlib.Core.Bool.{true};
 ghost use mathlib.Core.Path.{_≡_};
-ghost use Prim.Native.Nat.{ℕ, _≤_};
+ghost use Prim.Native.Nat.{ℕ, _*_, _≤_};
+ghost use lib.ListN.{length};
 ghost use Rattle.base.specs.Numbers.{numberOf, _then_};
 ghost use Rattle.road.specs.Table.{distance, entry};
 ghost use Rattle.dayfile.specs.Day.{stopsRefusal, dayRefusal};
 ghost use Rattle.workfunction.specs.Plan.{planRule, planCost, legCost};
 ghost use Rattle.book.specs.Book.{startsOf, standsOf, requestsOf, stopsOf, follower, weightsRefusal, bookRefusal, opening, freshOf};
+ghost use Rattle.book.specs.Legs.{LegTable};
 ghost use Rattle.book.specs.Serving.{askedRefusal, callRefusal, tidied, bookAfter, outcome, unserved, figuresOf, servedOf, Next, figures, costsOf, dayFigures, servedDay};
 
 // A book in memory, beside its road table. Entries past the counts are ignored where a book is given, and 0 in a book
@@ -242,13 +244,7 @@ fn served(book: Book, table: &Table, place: u16) -> Serving
     let mut plan = tidy.plan;
     let mut weights = tidy.weights;
     let mut costs = [0; legs::COSTS];
-    legs::fill(
-        table,
-        &starts[..cranes],
-        &requests[..calls],
-        &stands[..cranes],
-        &mut costs[..],
-    );
+    fill_legs(tidy, table, &mut costs[..]);
     let step = serve::serve_call(
         table,
         &starts[..cranes],
@@ -284,18 +280,9 @@ fn least(book: Book, table: &Table) -> u64
 {
     let cranes = book.cranes;
     let calls = book.calls;
-    let starts = book.starts;
-    let requests = book.requests;
-    let stands = book.stands;
     let plan = book.plan;
     let mut costs = [0; legs::COSTS];
-    legs::fill(
-        table,
-        &starts[..cranes],
-        &requests[..calls],
-        &stands[..cranes],
-        &mut costs[..],
-    );
+    fill_legs(book, table, &mut costs[..]);
     plan::cost(cranes + calls, &plan[..], &costs[..])
 }
 
@@ -304,24 +291,20 @@ fn day_served(day: Day, table: &Table) -> ServedDay
     requires { ⌜ dayRefusal day (distance (now table)) ≡ 0 ⌝ }
     ensures { λ r. ⌜ dayFigures r ≡ servedDay day (distance (now (table .entry))) ⌝ }
 {
-    let cranes = day.cranes;
-    let calls = day.calls;
     let starts = day.starts;
+    let fresh = begin::book(day.cranes, starts);
+    let cranes = fresh.cranes;
+    let calls = day.calls;
+    let starts = fresh.starts;
     let requests = day.requests;
-    let mut stands = begin::places(cranes, starts);
-    let mut plan = begin::plan(cranes);
-    let mut weights = [0; Book::STOPS];
+    let mut stands = fresh.stands;
+    let mut plan = fresh.plan;
+    let mut weights = fresh.weights;
     let mut costs = [0; legs::COSTS];
     let mut sent = [0; Book::CALLS];
     let mut metres = [0; Book::CALLS];
     let mut leasts = [0; Book::CALLS];
-    legs::fill(
-        table,
-        &starts[..cranes],
-        &requests[..0],
-        &stands[..cranes],
-        &mut costs[..],
-    );
+    fill_legs(fresh, table, &mut costs[..]);
     let driven = serve::serve_all(
         table,
         &starts[..cranes],
@@ -374,18 +357,28 @@ fn test_weights(book: Book, table: &Table) -> Verdict
 {
     let cranes = book.cranes;
     let calls = book.calls;
-    let starts = book.starts;
-    let requests = book.requests;
-    let stands = book.stands;
     let plan = book.plan;
     let weights = book.weights;
     let mut costs = [0; legs::COSTS];
+    fill_legs(book, table, &mut costs[..]);
+    weights::test(cranes, cranes + calls, &plan[..], &weights[..], &costs[..])
+}
+
+// The table of a book's legs.
+fn fill_legs(book: Book, table: &Table, costs: &mut [u32])
+    requires { ⌜ (book .cranes ≤ 16) × ((book .calls ≤ 256) × (272 * 272 ≤ length (now costs))) ⌝ }
+    ensures { λ _. ⌜ LegTable (entry (distance (now (table .entry)))) (startsOf book) (requestsOf book) (standsOf book) (now (costs .exit)) ⌝ }
+{
+    let cranes = book.cranes;
+    let calls = book.calls;
+    let starts = book.starts;
+    let requests = book.requests;
+    let stands = book.stands;
     legs::fill(
         table,
         &starts[..cranes],
         &requests[..calls],
         &stands[..cranes],
-        &mut costs[..],
+        costs,
     );
-    weights::test(cranes, cranes + calls, &plan[..], &weights[..], &costs[..])
 }

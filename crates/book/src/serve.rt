@@ -4,13 +4,12 @@ use crate::legs;
 use crate::plan;
 use road::Road;
 use road::Table;
-ghost use mathlib.Core.List.{List, []};
-ghost use mathlib.Core.Path.{_≡_};
+ghost use mathlib.Core.List.{[]};
 ghost use Prim.Native.Nat.{ℕ, _<_, _≤_};
 ghost use lib.ListN.{length, getD};
 ghost use Rattle.road.specs.Table.{distance, entry};
 ghost use Rattle.workfunction.specs.Plan.{stops};
-ghost use Rattle.workfunction.specs.Serving.{Served, serve};
+ghost use Rattle.workfunction.specs.Serving.{serve};
 ghost use Rattle.book.specs.Insertion.{Roads, Kept, Answered, Unmoved, DayAnswered};
 
 // A call that is served: the crane sent, the metres that it drives, the least cost after it.

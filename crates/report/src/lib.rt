@@ -46,8 +46,9 @@ fn print(file: &[u8], out: &mut [u8]) -> usize
 {
     let reading = Day::read(file);
     let verdict = reading.verdict;
+    let index = reading.index;
     let Verdict::Accepted = verdict else {
-        return text::put_refused(base::number(verdict) as u64, reading.index as u64, out);
+        return text::put_refused(base::number(verdict) as u64, index as u64, out);
     };
     let day = reading.day;
     print_day(day, Day::read_table(file), out)

@@ -32,14 +32,17 @@ module _ (k N : ℕ) (plan : List ℕ) (planned : planRule k N (follower plan) �
 pub taken-witnessed : {k N : ℕ} {plan : List ℕ} {weights : List ℤ} {costs : List ℕ} → Witnessed k N plan weights costs
     → Witnessed k N (set plan N N) weights costs
 taken-witnessed {k} {N} {plan} {weights} {costs} w =
-    let below = plan-facts k N (follower plan) (w .planned) .below in
-    let same = kept k N plan (w .planned) in
+    let below = plan-facts k N (follower plan) (w .certified .planned) .below in
+    let same = kept k N plan (w .certified .planned) in
     record {
       few = w .few;
       weighed = w .weighed;
-      planned = rule k N plan (w .planned);
-      ranged = w .ranged;
-      vouched =
-          sym (same-vouching k N (follower plan) _ (legAt costs) _ (weight weights) _ below same (λ b l. refl) (λ p b h l. refl)) ∙ w .vouched;
+      certified = record {
+        planned = rule k N plan (w .certified .planned);
+        ranged = w .certified .ranged;
+        vouched =
+            sym (same-vouching k N (follower plan) _ (legAt costs) _ (weight weights) _ below same (λ b l. refl) (λ p b h l. refl))
+            ∙ w .certified .vouched;
+      };
       short = w .short;
     }

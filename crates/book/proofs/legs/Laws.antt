@@ -1,15 +1,12 @@
 -- The laws of the places of stops and followers, and of a table of leg costs into which a leg or a row is written; only
 -- the distances between the places decide them. Assumes nothing.
-use Prim.Native.Nat.{ℕ, _+_, _-_, _*_, _<_, _≤_, zero-le}
+use Prim.Native.Nat.{ℕ, _+_, _-_, _*_, _<_, _≤_}
 use mathlib.Core.Bool.{true}
 use mathlib.Core.List.{List, _++_}
-use mathlib.Core.Logic.{⊎-elim}
-use mathlib.Core.Path.{_≡_, refl, sym, ap, subst, _∙_}
+use mathlib.Core.Path.{_≡_, sym, ap, _∙_}
 use lib.ListN.{length, getD, set, take, drop, length-append, length-drop, List·getD-append, List·getD-eq-default}
 use lib.Seq.{length-take-le, getD-append-add, getD-take, getD-set-same, getD-set-other}
 use native.Mathlib.Decide.{decLt}
-use native.Mathlib.Nat.{not-suc-le-zero, le-antisymm, le-of-suc-le-suc, eq-or-lt-of-le}
-use native.Mathlib.Numerals.{add-one}
 use native.Mathlib.Omega.{arith}
 use Rattle.base.specs.Lists.{upTo}
 use Rattle.base.proofs.Lists.{length-upTo, getD-upTo}
@@ -17,7 +14,7 @@ use Rattle.dayfile.specs.Day.{stopsRule}
 use Rattle.dayfile.proofs.Limits.{stop-below}
 use Rattle.workfunction.specs.Plan.{place, legCost}
 use Rattle.workfunction.proofs.Stops.{place-stand}
-use Rattle.book.specs.Legs.{legAt, Rows}
+use Rattle.book.specs.Legs.{legAt}
 use Rattle.book.proofs.search.Lent.{lent, length-lent}
 
 -- the place of a call
@@ -66,35 +63,6 @@ module _ (costs row : List ℕ) (b n : ℕ) (g : ℕ → ℕ) (fits : 272 * b + 
   row-new p h =
       ap (λ (i : ℕ). getD (rowBack costs b n row) (i + p) 0) (sym front) ∙ getD-append-add (take (272 * b) costs) _ p 0
       ∙ rw row-is (List·getD-append (upTo n g) _ 0 p (rw length-upTo h)) ∙ getD-upTo n g p 0 h
-
--- the invariant of a loop that fills the rows of n followers: those before b
-pub record RowsFilled (n : ℕ) (c : ℕ → ℕ → ℕ) (old now : List ℕ) (b : ℕ) : Type 0 where
-  pub most : b ≤ n
-  pub long : length now ≡ length old
-  pub rows : Rows n b c now
-
-module _ (n : ℕ) (c : ℕ → ℕ → ℕ) (old : List ℕ) where
-  pub rows-begun : RowsFilled n c old old 0
-  rows-begun = record { most = zero-le; long = refl; rows = record { leg = λ p b h l. absurd (not-suc-le-zero l) } }
-
-  -- the part from 272 * b to 272 * b + n is filled
-  pub rows-turned : (now part : List ℕ) (b : ℕ) → n ≤ 272 → 272 * 272 ≤ length old → RowsFilled n c old now b → b < n
-      → part ≡ upTo (length (take (272 * b + n - 272 * b) (drop (272 * b) now))) (λ p. c p b)
-      → RowsFilled n c old (take (272 * b) now ++ (part ++ drop (272 * b + n - 272 * b) (drop (272 * b) now))) (b + 1)
-  rows-turned now part b most fits f lt same =
-      let at : 272 * b + n ≤ length now = omega arith in
-      record {
-        most = omega arith;
-        long = length-row now part b n (λ p. c p b) at same ∙ f .long;
-        rows = record {
-          leg = λ p a h l. ⊎-elim (λ (s : a ≡ b). rw s (row-new now part b n (λ p. c p b) at same p h))
-              (λ (m : a < b). row-kept now part b n (λ p. c p b) at same p a (omega arith) m ∙ f .rows .leg p a h m)
-              (eq-or-lt-of-le (le-of-suc-le-suc (rw add-one at l)));
-        };
-      }
-
-  pub rows-ended : (now : List ℕ) (b : ℕ) → RowsFilled n c old now b → n ≤ b → Rows n n c now
-  rows-ended now b f le = subst (λ (m : ℕ). Rows n m c now) (le-antisymm (f .most) le) (f .rows)
 
 -- places that keep their rule: tables that agree between the places below n have the same legs
 module _ {n : ℕ} (some : 0 < n) where

@@ -2,7 +2,7 @@
 -- what serving it gives. Assumes nothing.
 use Prim.Native.Nat.{ℕ, _*_, _<_, _≤_}
 use mathlib.Core.List.{List}
-use mathlib.Core.Path.{_≡_, sym, _∙_}
+use mathlib.Core.Path.{_≡_, sym}
 use borrow.Author.Needs.{needs}
 use borrow.Author.Tests.{ltb-true}
 use lib.Dec.{ltb}
@@ -16,7 +16,7 @@ use Rattle.book.specs.Insertion.{Kept}
 use Rattle.book.specs.Legs.{LegTable}
 use Rattle.book.specs.Serving.{callRefusal}
 use Rattle.book.proofs.Carried.{sound-kept, told-after, next}
-use Rattle.book.proofs.Sound.{Arrays, Fits, fit, starts-long, stands-long, requests-long, stops-long, Sound, book-sound, sound-roads}
+use Rattle.book.proofs.Sound.{Arrays, Fits, fit, starts-long, stands-long, requests-long, Sound, book-sound, sound-roads, sound-fits}
 use Rattle.book.proofs.Tidy.{tidy-same, tidy-refusal, tidy-plan, tidy-weights}
 use Rattle.book.proofs.served.Statement.{statement}
 use Rattle.book.proofs.served.Tie as tie
@@ -75,7 +75,7 @@ tested-so : (t : tie.After-tidy) → let s = t .before in Called (tidy t) (s .pr
 tested-so t = let s = t .before in tested t (s .pre .0) (s .pre .1)
 
 tidy-fits : (t : tie.After-tidy) → Fits (tidy t)
-tidy-fits t = let k = tested-so t .sound .counts in fit (arrays t) (k .cranes) (k .calls)
+tidy-fits t = sound-fits (arrays t) (tested-so t .sound)
 
 -- it is a day under way
 kept : {costs : List ℕ} (t : tie.After-tidy) (n : ℕ) → let s = t .before in Accepted s n → 272 * 272 ≤ length costs
@@ -85,11 +85,8 @@ kept t n h long table =
     sound-kept (arrays t) (tested t n h .sound) (omega (arith, plan-long t)) (omega (arith, weights-long t)) long table
 
 -- the places at which the arrays are lent
-abbrev at-weights : tie.After-weights → tie.After-tidy
-at-weights c = c .before .before .before .before .before
-
 abbrev at-costs : tie.After-costs → tie.After-tidy
-at-costs c = at-weights (c .before .before .before .before)
+at-costs c = c .before .before .before .before .before .before
 
 abbrev at-fill : tie.After-costs2 → tie.After-tidy
 at-fill c = at-costs (c .before .before)
@@ -103,41 +100,20 @@ at-end c = at-call (c .before .before .before .before .before)
 tidy-requires : tie.Need-tidy-requires
 tidy-requires c κs = let k = called _ (c .pre .0) (roads c) _ (c .pre .1) .sound .counts in (k .cranes, k .calls)
 
+slice-aggregate-fill-legs : tie.Need-slice-aggregate-fill-legs
+slice-aggregate-fill-legs c = search needs
+
+fill-legs-requires : tie.Need-fill-legs-requires
+fill-legs-requires c κs = let k = tested-so (at-costs c) .sound .counts in (k .cranes, (k .calls, search needs))
+
 array-share-prefix-starts : tie.Need-array-share-prefix-starts
-array-share-prefix-starts c = tidy-fits (at-weights c) .starts
-
-slice-aggregate-fill : tie.Need-slice-aggregate-fill
-slice-aggregate-fill c = sym (starts-long (tidy-fits (at-weights (c .before))))
-
-array-share-prefix-requests : tie.Need-array-share-prefix-requests
-array-share-prefix-requests c = tidy-fits (at-weights (c .before)) .requests
-
-slice-aggregate-fill-2 : tie.Need-slice-aggregate-fill-2
-slice-aggregate-fill-2 c = sym (requests-long (tidy-fits (at-weights (c .before .before))))
-
-array-share-prefix-stands : tie.Need-array-share-prefix-stands
-array-share-prefix-stands c = tidy-fits (at-weights (c .before .before)) .stands
-
-slice-aggregate-fill-3 : tie.Need-slice-aggregate-fill-3
-slice-aggregate-fill-3 c = sym (stands-long (tidy-fits (at-weights (c .before .before .before))))
-
-slice-aggregate-fill-4 : tie.Need-slice-aggregate-fill-4
-slice-aggregate-fill-4 c = search needs
-
-fill-requires : tie.Need-fill-requires
-fill-requires c κs =
-    let f = tidy-fits (at-costs c) in
-    let k = tested-so (at-costs c) .sound .counts in
-    (stands-long f ∙ sym (starts-long f), (rw (stops-long f) (omega (arith, k .cranes, k .calls)), search needs))
-
-array-share-prefix-starts-2 : tie.Need-array-share-prefix-starts-2
-array-share-prefix-starts-2 c = tidy-fits (at-fill c) .starts
+array-share-prefix-starts c = tidy-fits (at-fill c) .starts
 
 slice-aggregate-serve-call : tie.Need-slice-aggregate-serve-call
 slice-aggregate-serve-call c = sym (starts-long (tidy-fits (at-fill (c .before))))
 
-array-share-prefix-requests-2 : tie.Need-array-share-prefix-requests-2
-array-share-prefix-requests-2 c = tidy-fits (at-fill (c .before)) .requests
+array-share-prefix-requests : tie.Need-array-share-prefix-requests
+array-share-prefix-requests c = tidy-fits (at-fill (c .before)) .requests
 
 slice-aggregate-serve-call-2 : tie.Need-slice-aggregate-serve-call-2
 slice-aggregate-serve-call-2 c = sym (requests-long (tidy-fits (at-fill (c .before .before))))
@@ -162,7 +138,7 @@ serve-call-requires c κs =
     let t = at-call c in
     let s = t .before in
     let k = tested-so t in
-    let f = c .before .before .before .before .before .before .before .fill .ensures in
+    let f = c .before .before .before .before .before .before .before .fill-legs .ensures in
     let day = kept t (s .pre .0) (s .pre .1) (search needs) f in
     (s .pre .0, (roads s, (sound-roads (k .sound), (day, (k .on, rw (requests-long (tidy-fits t)) (k .space))))))
 
@@ -172,8 +148,8 @@ mul-requests c = omega (arith, tested-so (at-end c) .space)
 array-write-requests : tie.Need-array-write-requests
 array-write-requests c = tested-so (at-end c) .space
 
-add-t35 : tie.Need-add-t35
-add-t35 c = omega (arith, tested-so (at-end c) .space)
+add-t29 : tie.Need-add-t29
+add-t29 c = omega (arith, tested-so (at-end c) .space)
 
 returns : tie.Need-returns
 returns c = λ n h.
@@ -181,7 +157,7 @@ returns c = λ n h.
     let k = tested t n h in
     let e = t .tidy .ensures in
     let a = c .before .before .before .before in
-    let f = a .before .before .before .before .before .before .before .before .fill .ensures in
+    let f = a .before .before .before .before .before .before .before .before .fill-legs .ensures in
     let day = kept t n h (search needs) f in
     let answered = a .serve-call .ensures .0 n (roads (t .before)) (sound-roads (k .sound)) day (k .on) in (
       told-after (arrays t) (k .sound) (k .on) (k .space) answered e (same t n h),
@@ -193,17 +169,11 @@ served-spec =
     tie.close
     (tie.spec
     tidy-requires
+    slice-aggregate-fill-legs
+    fill-legs-requires
     array-share-prefix-starts
-    slice-aggregate-fill
-    array-share-prefix-requests
-    slice-aggregate-fill-2
-    array-share-prefix-stands
-    slice-aggregate-fill-3
-    slice-aggregate-fill-4
-    fill-requires
-    array-share-prefix-starts-2
     slice-aggregate-serve-call
-    array-share-prefix-requests-2
+    array-share-prefix-requests
     slice-aggregate-serve-call-2
     array-borrow-prefix-stands
     slice-aggregate-serve-call-3
@@ -213,5 +183,5 @@ served-spec =
     serve-call-requires
     mul-requests
     array-write-requests
-    add-t35
+    add-t29
     returns)

@@ -3,7 +3,6 @@
 use Prim.Native.Nat.{_-_}
 use mathlib.Core.Path.{refl}
 use borrow.Author.Needs.{needs}
-use native.Mathlib.Omega.{arith}
 use Rattle.base.proofs.Lists.{Filled, fill-begun, fill-turned, fill-padded}
 use Rattle.book.proofs.begin.plan.Statement.{statement}
 use Rattle.book.proofs.begin.plan.Tie as tie
@@ -33,9 +32,7 @@ loop-less : tie.Need-loop-less Inv-loop μ-loop
 loop-less c = search needs
 
 loop-again : tie.Need-loop-again Inv-loop μ-loop
-loop-again c =
-    let l = c .before in
-    fill-turned _ _ _ _ _ _ (omega arith) (l .loop .inv) (c .loop-test .taken) refl
+loop-again c = fill-turned _ _ _ _ _ _ (search needs) (c .before .loop .inv) (c .loop-test .taken) refl
 
 returns : tie.Need-returns Inv-loop μ-loop
 returns c = fill-padded _ 272 _ 0 _ _ (c .before .loop .inv) (c .loop-test .left)

@@ -1,73 +1,62 @@
 -- `book::begin::tidy` meets its contract: each array is taken up to its count, and is 0 past it.
 -- Assumes nothing.
-use Prim.Native.Nat.{ℕ}
-use mathlib.Core.List.{List}
-use mathlib.Core.Path.{_≡_}
 use borrow.Author.Needs.{needs}
-use lib.IntN.{ℤ, pos}
-use lib.ListN.{getD}
-use Rattle.base.specs.Lists.{padded}
-use Rattle.book.specs.declared.Book.{Book}
-use Rattle.book.specs.Book.{stopsOf, follower, weight}
+use Rattle.base.proofs.Lists.{drop-replicate}
 use Rattle.book.specs.Serving.{tidied}
 use Rattle.book.proofs.begin.tidy.Statement.{statement}
 use Rattle.book.proofs.begin.tidy.Tie as tie
 
--- the counts of a book with those arrays
-abbrev kept : Book → List ℕ → List ℕ → List ℕ → List ℕ → List ℤ → Book
-kept book starts stands requests plan weights =
-    record {
-      cranes = book .cranes;
-      calls = book .calls;
-      starts = starts;
-      stands = stands;
-      requests = requests;
-      plan = plan;
-      weights = weights;
-    }
-
-made : (book : Book) (starts stands requests plan : List ℕ) (weights : List ℤ)
-    → starts ≡ padded 16 (book .cranes) (λ j. getD (book .starts) j 0) 0
-    → stands ≡ padded 16 (book .cranes) (λ j. getD (book .stands) j 0) 0
-    → requests ≡ padded 256 (book .calls) (λ i. getD (book .requests) i 0) 0
-    → plan ≡ padded 272 (stopsOf book) (follower (book .plan)) 0 → weights ≡ padded 272 (stopsOf book) (weight (book .weights)) (pos 0)
-    → kept book starts stands requests plan weights ≡ tidied book
-unfolding tidied
-made book starts stands requests plan weights s t r p w = λ i. kept book (s i) (t i) (r i) (p i) (w i)
-
 add-stops : tie.Need-add-stops
 add-stops c = search needs
 
-places-requires : tie.Need-places-requires
-places-requires c κs = search needs
+slice-aggregate-keep : tie.Need-slice-aggregate-keep
+slice-aggregate-keep c = search needs
 
-places-requires-2 : tie.Need-places-requires-2
-places-requires-2 c κs = search needs
+keep-requires : tie.Need-keep-requires
+keep-requires c κs = search needs
 
-requests-requires : tie.Need-requests-requires
-requests-requires c κs = search needs
+slice-aggregate-keep-2 : tie.Need-slice-aggregate-keep-2
+slice-aggregate-keep-2 c = search needs
 
-followers-requires : tie.Need-followers-requires
-followers-requires c κs = search needs
+keep-requires-2 : tie.Need-keep-requires-2
+keep-requires-2 c κs = search needs
+
+slice-aggregate-keep-3 : tie.Need-slice-aggregate-keep-3
+slice-aggregate-keep-3 c = search needs
+
+keep-requires-3 : tie.Need-keep-requires-3
+keep-requires-3 c κs = search needs
+
+slice-aggregate-keep-4 : tie.Need-slice-aggregate-keep-4
+slice-aggregate-keep-4 c = search needs
+
+keep-requires-4 : tie.Need-keep-requires-4
+keep-requires-4 c κs = search needs
 
 weights-requires : tie.Need-weights-requires
 weights-requires c κs = search needs
 
 returns : tie.Need-returns
+unfolding tidied
 returns c =
-    let p = c .before in
-    let r = p .before in
-    let t = r .before in
-    made _ _ _ _ _ _ (t .before .places .ensures) (t .places2 .ensures) (r .requests .ensures) (p .followers .ensures) (c .weights .ensures)
+    let p = c .before .before .before in
+    let r = p .before .before .before .before .before .before in
+    let t = r .before .before .before .before .before .before in
+    let s = t .before .before .before .before .before .before in
+    rw (s .keep .ensures, t .keep2 .ensures, r .keep3 .ensures, p .keep4 .ensures, c .weights .ensures) (simp drop-replicate)
 
 pub tidy-spec : {M : Type 1} → statement M
 tidy-spec =
     tie.close
     (tie.spec
     add-stops
-    places-requires
-    places-requires-2
-    requests-requires
-    followers-requires
+    slice-aggregate-keep
+    keep-requires
+    slice-aggregate-keep-2
+    keep-requires-2
+    slice-aggregate-keep-3
+    keep-requires-3
+    slice-aggregate-keep-4
+    keep-requires-4
     weights-requires
     returns)

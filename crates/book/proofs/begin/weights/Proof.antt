@@ -38,8 +38,7 @@ loop-less c = search needs
 
 loop-again : tie.Need-loop-again Inv-loop μ-loop
 loop-again c =
-    let l = c .before .before in
-    fill-turned _ _ _ _ _ _ (l .before .pre) (l .loop .inv) (c .before .loop-test .taken) (read-back _ (c .kept .given))
+    fill-turned _ _ _ _ _ _ (search needs) (c .before .before .loop .inv) (c .before .loop-test .taken) (read-back _ (c .kept .given))
 
 returns : tie.Need-returns Inv-loop μ-loop
 returns c = fill-padded _ 272 _ (pos 0) _ _ (c .before .loop .inv) (c .loop-test .left)

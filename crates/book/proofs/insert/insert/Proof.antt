@@ -120,7 +120,7 @@ fill-nets-requires c κs =
         a .pre .1 .1 .0,
         (
           cranes,
-          (cranes, (rw length-set (long a), (search needs, (a .pre .1 .1 .1 .1 .1 .0, (w .planned, s .search .ensures .totals))))),
+          (cranes, (rw length-set (long a), (search needs, (a .pre .1 .1 .1 .1 .1 .0, (w .certified .planned, s .search .ensures .totals))))),
         ),
       ),
     )
@@ -148,7 +148,7 @@ renew-requires c κs =
     let s = searching (filling (choosing c .before) .before) in
     let a = entry (s .before) in
     let few = witnessed a .few in
-    let plan = taken-plan (a .args .cranes) (a .args .new) (a .args .plan .now) (witnessed a .planned) in
+    let plan = taken-plan (a .args .cranes) (a .args .new) (a .args .plan .now) (witnessed a .certified .planned) in
     let self = taken-self (a .args .new) (a .args .plan .now) (long a) in (
       few,
       (

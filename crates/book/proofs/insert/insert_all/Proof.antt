@@ -8,9 +8,9 @@ use lib.IntN.{ℤ}
 use lib.ListN.{length, set}
 use native.Mathlib.Omega.{arith}
 use Rattle.book.specs.Book.{follower, weight}
-use Rattle.book.specs.Insertion.{Inserted, Inserting}
+use Rattle.book.specs.Insertion.{Inserted}
 use Rattle.book.specs.Legs.{legAt}
-use Rattle.book.specs.Search.{Witnessed}
+use Rattle.book.specs.Search.{Certified, Witnessed}
 use Rattle.book.proofs.Insertion.{inserted-plan, inserted-range, inserted-vouched}
 use Rattle.book.proofs.insert.Laws.{taken-self, taken-plan}
 use Rattle.book.proofs.insert.insert_all.Statement.{statement}
@@ -23,9 +23,9 @@ module _ (k stops : ℕ) (costs plan₀ : List ℕ) (weights₀ : List ℤ) wher
     most : N ≤ stops
     planned : length plan ≡ length plan₀
     weighed : length weights ≡ length weights₀
-    taken : Inserting k N plan weights costs
+    taken : Certified k N plan weights costs
 
-  taking-begun : k ≤ stops → Inserting k k plan₀ weights₀ costs → Taking plan₀ weights₀ k
+  taking-begun : k ≤ stops → Certified k k plan₀ weights₀ costs → Taking plan₀ weights₀ k
   taking-begun le i = record { least = omega arith; most = le; planned = refl; weighed = refl; taken = i }
 
   module _ (short : (p b : ℕ) → p < stops → b < stops → legAt costs p b ≤ 1000000) (few : stops ≤ 272)
@@ -36,9 +36,7 @@ module _ (k stops : ℕ) (costs plan₀ : List ℕ) (weights₀ : List ℤ) wher
         record {
           few = omega arith;
           weighed = omega arith;
-          planned = t .taken .planned;
-          ranged = t .taken .ranged;
-          vouched = t .taken .vouched;
+          certified = t .taken;
           short = λ p b h l. short p b (omega arith) (omega arith);
         }
 
@@ -63,7 +61,7 @@ module _ (k stops : ℕ) (costs plan₀ : List ℕ) (weights₀ : List ℤ) wher
           };
         }
 
-  taking-ended : {plan : List ℕ} {weights : List ℤ} {N : ℕ} → Taking plan weights N → stops ≤ N → Inserting k stops plan weights costs
+  taking-ended : {plan : List ℕ} {weights : List ℤ} {N : ℕ} → Taking plan weights N → stops ≤ N → Certified k stops plan weights costs
   taking-ended {N = N} t le = let e : stops ≡ N = omega (arith, t .most) in rw e (t .taken)
 
 abbrev Inv-loop : tie.InvT-loop

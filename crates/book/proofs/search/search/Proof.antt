@@ -19,12 +19,12 @@ use Rattle.book.proofs.search.search.Tie as tie
 
 module _ {k N : ℕ} {plan : List ℕ} {weights : List ℤ} {costs : List ℕ} (w : Witnessed k N plan weights costs) where
   below : (p : ℕ) → p < N → follower plan p < N
-  below = plan-facts k N (follower plan) (w .planned) .below
+  below = plan-facts k N (follower plan) (w .certified .planned) .below
 
   in-range : {totals parents ranks : List ℕ} → Sized N plan costs totals parents ranks → Weighed N plan weights costs
   in-range sized = record {
     followed = record { most = le-of-lt (w .few); planned = le-of-lt (sized .planned); weighed = w .weighed; costed = sized .costed; below = below };
-    ranged = below-at _ N (w .ranged);
+    ranged = below-at _ N (w .certified .ranged);
   }
 
   leg : (p b : ℕ) → p < N → b < N → legAt costs p b ≤ 1000000
@@ -39,10 +39,10 @@ module _ {k N : ℕ} {plan : List ℕ} {weights : List ℤ} {costs : List ℕ} (
         below = below;
         new = self;
         cost = w .short;
-        high = λ p lt. rw (filled p lt) (head-high _ _ (below-at _ N (w .ranged) _ (below p lt)) (leg p _ lt (below p lt)));
+        high = λ p lt. rw (filled p lt) (head-high _ _ (below-at _ N (w .certified .ranged) _ (below p lt)) (leg p _ lt (below p lt)));
         vouched = λ p q lt less may.
             rw (filled p lt, filled q less)
-            (heads-vouch k N (follower plan) (legAt costs) (weight weights) (w .vouched) (below-at _ N (w .ranged)) below leg p q lt less may);
+            (heads-vouch k N (follower plan) (legAt costs) (weight weights) (w .certified .vouched) (below-at _ N (w .certified .ranged)) below leg p q lt less may);
       }
 
 -- the row lent to `begin` holds the legs to the new call
