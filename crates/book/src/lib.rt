@@ -143,7 +143,7 @@ impl Book {
     }
 
     // Serves a call at a place: the book's test, then 5 for the place, then 7 for a full book. The new book's plan and weights
-    // are the only part of the result that the rules leave open: of them it holds that the book is sound and has 0 past its
+    // are the only part of the result that document 01 leaves open: of them it holds that the book is sound and has 0 past its
     // counts. All else is one equation, for every input.
     pub fn serve(self, places: usize, table: Table, place: u16) -> Serving
         ensures { λ r. ⌜ (outcome r ≡ servedOf self places (distance table) place (r .book .plan) (r .book .weights)) × (callRefusal self places (distance table) place ≡ 0 → Next (r .book) places (distance table)) ⌝ }

@@ -17,6 +17,7 @@ use Rattle.dayfile.specs.declared.Day.{Day}
 use Rattle.dayfile.specs.Day.{dayRefusal}
 use Rattle.dayfile.specs.File.{Answer, readFile, readTable, Output, outputOf}
 use Rattle.dayfile.proofs.Limits.{day-tested}
+use Rattle.dayfile.proofs.RoundTrip.{file-accepted}
 use Rattle.workfunction.specs.Serving.{Served}
 use Rattle.book.specs.Serving.{DayFigures, dayOr, servedDay}
 use Rattle.report.specs.Text.{callLines, lastLine, refusedLine, dayText, Put}
@@ -66,6 +67,11 @@ module _ (file : List ℕ) (a : Answer) (e : a ≡ readFile file) where
       → figuresText (servedDay (a .day) (distance table)) ≡ printOf file
   unfolding printOf
   file-served table q z = rw (q, ← e, z)
+
+-- the day of an accepted file is served: a file's own test leaves nothing for the day's to refuse
+pub accepted-served : (file : List ℕ) → readFile file .number ≡ 0 → servedDay (readFile file .day) (distance (readTable file)) .number ≡ 0
+unfolding servedDay
+accepted-served file h = rw (file-accepted file h)
 
 -- ---- the buffer
 

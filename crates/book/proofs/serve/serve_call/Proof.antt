@@ -86,11 +86,16 @@ slice-write-stands : tie.Need-slice-write-stands
 slice-write-stands c = sent-stands (c .before .before .before .before .before)
 
 mul-weights : tie.Need-mul-weights
-mul-weights c = let low = sent-low (c .before .before .before .before .before) in search needs
+mul-weights c =
+    let i = c .before .before .before .before .before in
+    let few = room (begun (extended i)) in
+    let low = sent-low i in
+    search needs
 
 slice-set-of-weights : tie.Need-slice-set-of-weights
 slice-set-of-weights c =
     let i = c .before .before .before .before .before in
+    let few = room (begun (extended i)) in
     let low = sent-low i in
     let long = begun (extended i) .pre .1 .1 .1 .0 .weightsLong in
     search needs
@@ -105,7 +110,7 @@ copy-row-requires c κs =
     let few = room a in
     let low = sent-low i in
     let long = a .pre .1 .1 .1 .0 .costsLong in
-    (omega arith, (few, (omega arith, search needs)))
+    (omega arith, (omega arith, (omega arith, search needs)))
 
 add-cost : tie.Need-add-cost
 add-cost c =
