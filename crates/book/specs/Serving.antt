@@ -93,20 +93,20 @@ pub record Next (book : Book) (n : ℕ) (d : ℕ → ℕ → ℕ) : Type 0 where
 -- ---- the two costs
 
 -- the number, 0 where the book is sound; the two costs
-pub record Figures : Type 0 where
+pub record TwoCosts : Type 0 where
   pub number : ℕ
   pub least : ℕ
   pub floor : ℕ
 
-abbrev pub figures : Costs → Figures
-figures r = record { number = numberOf (r .verdict); least = r .least; floor = r .floor }
+abbrev pub twoCosts : Costs → TwoCosts
+twoCosts r = record { number = numberOf (r .verdict); least = r .least; floor = r .floor }
 
-abbrev pub costsOr : ℕ → ℕ → ℕ → Figures
+abbrev pub costsOr : ℕ → ℕ → ℕ → TwoCosts
 costsOr zero least floor = record { number = 0; least = least; floor = floor }
 costsOr (suc n) least floor = record { number = suc n; least = 0; floor = 0 }
 
 -- "The costs of a book: 'least' is w(stands); 'floor' is the smallest w(C) over all C."
-unfoldable pub costsOf : Book → ℕ → (ℕ → ℕ → ℕ) → Figures
+unfoldable pub costsOf : Book → ℕ → (ℕ → ℕ → ℕ) → TwoCosts
 costsOf book n d =
     costsOr (bookRefusal book n d) (work d n (startsOf book) (requestsOf book) (standsOf book)) (floor d n (startsOf book) (requestsOf book))
 

@@ -26,7 +26,7 @@ ghost use Rattle.dayfile.specs.Day.{stopsRefusal, dayRefusal};
 ghost use Rattle.workfunction.specs.Plan.{planRule, planCost, legCost};
 ghost use Rattle.book.specs.Book.{startsOf, standsOf, requestsOf, stopsOf, follower, weightsRefusal, bookRefusal, opening, freshOf};
 ghost use Rattle.book.specs.Legs.{LegTable};
-ghost use Rattle.book.specs.Serving.{askedRefusal, callRefusal, tidied, bookAfter, outcome, unserved, figuresOf, servedOf, Next, figures, costsOf, dayFigures, servedDay};
+ghost use Rattle.book.specs.Serving.{askedRefusal, callRefusal, tidied, bookAfter, outcome, unserved, figuresOf, servedOf, Next, twoCosts, costsOf, dayFigures, servedDay};
 
 // A book in memory, beside its road table. Entries past the counts are ignored where a book is given, and 0 in a book
 // that is returned. Stops and followers have the same numbers: the cranes' starts or stands first, then the calls.
@@ -161,7 +161,7 @@ impl Book {
 
     // The two costs of a book: the least cost of all movements that end at the stands, and of all movements; the same test.
     pub fn costs(self, places: usize, table: Table) -> Costs
-        ensures { λ r. ⌜ figures r ≡ costsOf self places (distance table) ⌝ }
+        ensures { λ r. ⌜ twoCosts r ≡ costsOf self places (distance table) ⌝ }
     {
         let tested = self.test(places, table);
         let Verdict::Accepted = tested else {

@@ -9,7 +9,7 @@ use Rattle.workfunction.specs.Movement.{work, floor}
 use Rattle.workfunction.specs.Plan.{planCost, legCost}
 use Rattle.book.specs.declared.Book.{Book}
 use Rattle.book.specs.Book.{startsOf, standsOf, requestsOf, stopsOf, follower, bookRefusal}
-use Rattle.book.specs.Serving.{Figures, costsOr, costsOf}
+use Rattle.book.specs.Serving.{TwoCosts, costsOr, costsOf}
 use Rattle.book.proofs.Sound.{Arrays, Fits, starts-long, requests-long, Sound, book-sound, sound-book}
 use Rattle.book.proofs.Sound.{sound-roads, sound-fits, sound-asked, sound-work}
 use Rattle.book.proofs.legs.Laws.{same-costs}
@@ -18,12 +18,12 @@ use Rattle.book.proofs.Book.costs.Statement.{statement}
 use Rattle.book.proofs.Book.costs.Tie as tie
 
 -- no costs beside a refusal
-no-costs : (n least floor : ℕ) → (n ≡ 0 → ⊥) → _≡_ {A = Figures} (record { number = n; least = 0; floor = 0 }) (costsOr n least floor)
+no-costs : (n least floor : ℕ) → (n ≡ 0 → ⊥) → _≡_ {A = TwoCosts} (record { number = n; least = 0; floor = 0 }) (costsOr n least floor)
 no-costs zero least floor h = absurd (h refl)
 no-costs (suc n) least floor h = refl
 
 refused : (book : Book) (places : ℕ) (d : ℕ → ℕ → ℕ) (n : ℕ) → n ≡ bookRefusal book places d → (n ≡ 0 → ⊥)
-    → _≡_ {A = Figures} (record { number = n; least = 0; floor = 0 }) (costsOf book places d)
+    → _≡_ {A = TwoCosts} (record { number = n; least = 0; floor = 0 }) (costsOf book places d)
 unfolding costsOf
 refused book places d n e h = rw (← e) (no-costs n _ _ h)
 
@@ -39,7 +39,7 @@ module _ {book : Book} {n : ℕ} {d : ℕ → ℕ → ℕ} (arrays : Arrays book
 
   told : (l f : ℕ) → l ≡ planCost (stopsOf book) (legCost (entry d) (startsOf book) (requestsOf book) (standsOf book)) (follower (book .plan))
       → f ≡ floor d n (startsOf book) (requestsOf book)
-      → _≡_ {A = Figures} (record { number = 0; least = l; floor = f }) (costsOf book n d)
+      → _≡_ {A = TwoCosts} (record { number = 0; least = l; floor = f }) (costsOf book n d)
   unfolding costsOf
   told l f least e = rw (sound-book s, least, kept-work, e)
 
