@@ -11,3 +11,4 @@ pub mod Lower
 pub mod Upper
 pub mod Witness
 pub mod NetCost
+pub mod Serving

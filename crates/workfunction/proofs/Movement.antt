@@ -4,12 +4,12 @@ use Prim.Native.Nat.{ℕ, zero, suc, _+_, _<_, _≤_, zero-le}
 use mathlib.Core.Bool.{Bool, true, false, _||_, or-true, false≢true}
 use mathlib.Core.List.{List, [], _∷_, _++_, map, List·Permᴰ, Permᴰ·symm, Forall₂, Forall₂·nil, Forall₂·cons}
 use mathlib.Core.List.{List·Memᴰ, List·Memᴰ·head, List·Memᴰ·tail, List·Memᴰ·not-nil, List·Memᴰ·cases-cons}
-use mathlib.Core.List.{List·Memᴰ·append-cases, List·Memᴰ·eq-of-singleton}
+use mathlib.Core.List.{List·Memᴰ·append-cases, List·Memᴰ·eq-of-singleton, Memᴰ·append-left}
 use mathlib.Core.Logic.{⊎-elim}
 use mathlib.Core.Path.{_≡_, refl, sym, subst, _∙_}
 use borrow.Author.Tests.{eqb-true, eq-eqb}
 use lib.Dec.{eqb}
-use lib.ListN.{length, replicate, length-replicate}
+use lib.ListN.{length, take, drop, replicate, length-replicate, take-append-drop}
 use native.Mathlib.Nat.{not-suc-le-zero, le-antisymm, le-trans}
 use native.Mathlib.Omega.{arith}
 use Rattle.base.specs.Metric.{Metric}
@@ -149,6 +149,15 @@ instance-then {n} {calls = calls} day h =
       called = λ m.
           ⊎-elim (λ k. day .called k) (λ k. subst (λ (q : ℕ). q < n) (sym (List·Memᴰ·eq-of-singleton k)) h)
           (List·Memᴰ·append-cases calls m);
+    }
+
+-- and with the first calls alone
+pub instance-first : {n : ℕ} {starts calls : List ℕ} (i : ℕ) → Instance n starts calls → Instance n starts (take i calls)
+instance-first {calls = calls} i day =
+    record {
+      crane = day .crane;
+      started = day .started;
+      called = λ {r} m. day .called (subst (List·Memᴰ r) (take-append-drop i calls) (Memᴰ·append-left (drop i calls) m));
     }
 
 -- the end of a movement is reached from its last position

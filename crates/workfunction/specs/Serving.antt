@@ -24,3 +24,8 @@ module _ (d : ℕ → ℕ → ℕ) (n : ℕ) (starts : List ℕ) where
   serve calls stands [] = []
   serve calls stands (r ∷ rs) =
       served calls stands r ∷ serve (calls ++ (r ∷ [])) (moved stands r (choice d n starts calls stands r)) rs
+
+  -- the stands once they are served
+  unfoldable pub standsAfter : List ℕ → List ℕ → List ℕ → List ℕ
+  standsAfter calls stands [] = stands
+  standsAfter calls stands (r ∷ rs) = standsAfter (calls ++ (r ∷ [])) (moved stands r (choice d n starts calls stands r)) rs
