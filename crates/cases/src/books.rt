@@ -1,19 +1,94 @@
-// Books that are sound and books with one fault each, tested; and the fresh books of days.
+// Books in memory: sound ones, each refusal and the order 3, 6, 7, 4, 5, 8, 9, 10, then 5 and 7 of a call; and that a refused call hands
+// back the book as it was given.
+use crate::refusals;
+use crate::small;
+use crate::tally::Tally;
 use book::Book;
-use dayfile::Day;
-use road::Road;
 use road::Table;
-ghost use Prim.Native.Nat.{_<_, _≤_};
+ghost use Prim.Native.Nat.{_<_};
 
-pub(crate) const TRIED: u64 = 19;
+// The books that a row begins with: the full book with weights 0, at the ends of their range and past them; and a book of one crane without
+// calls, with entries past its counts.
+const FULL: u32 = 0;
 
-// The table of two places with a leg of 7 metres.
-fn pair() -> Table {
-    let mut table = [[0; Road::PLACES]; Road::PLACES];
-    table[0][1] = 7;
-    table[1][0] = 7;
-    table
-}
+const HIGH: u32 = 1;
+
+const LOW: u32 = 2;
+
+const OVER: u32 = 3;
+
+const UNDER: u32 = 4;
+
+const ONE: u32 = 5;
+
+// What a row changes in it.
+const NONE: u32 = 0;
+
+const CRANES: u32 = 1;
+
+const CALLS: u32 = 2;
+
+const START: u32 = 3;
+
+const CALL: u32 = 4;
+
+const STAND: u32 = 5;
+
+const PLAN: u32 = 6;
+
+const WEIGHT: u32 = 7;
+
+// The tables: two places and a leg of 7 metres; three places that break the triangle rule; the same and a self-leg that is not 0.
+const PAIR: u32 = 0;
+
+const BROKEN: u32 = 1;
+
+const OWN: u32 = 2;
+
+const ROWS: usize = 31;
+
+// A book in each row: what it begins with; two changes, each by what is changed, where, and the new value; the number of places and the
+// table; the number that its test gives; the place of a call, and the number that the call gives.
+const BOOKS: [[u32; 12]; ROWS] = [
+    [ONE, NONE, 0, 0, NONE, 0, 0, 2, PAIR, 0, 0, 0],
+    [FULL, NONE, 0, 0, NONE, 0, 0, 2, PAIR, 0, 0, 7],
+    // Counts and places.
+    [FULL, NONE, 0, 0, NONE, 0, 0, 65, PAIR, 3, 0, 3],
+    [FULL, CRANES, 0, 0, NONE, 0, 0, 2, PAIR, 6, 0, 6],
+    [FULL, CRANES, 0, 17, NONE, 0, 0, 2, PAIR, 6, 0, 6],
+    [FULL, CALLS, 0, 257, NONE, 0, 0, 2, PAIR, 7, 0, 7],
+    [FULL, START, 15, 2, NONE, 0, 0, 2, PAIR, 5, 0, 5],
+    [FULL, CALL, 255, 2, NONE, 0, 0, 2, PAIR, 5, 0, 5],
+    [FULL, STAND, 15, 2, NONE, 0, 0, 2, PAIR, 5, 0, 5],
+    // The table.
+    [FULL, NONE, 0, 0, NONE, 0, 0, 3, OWN, 4, 0, 4],
+    [FULL, NONE, 0, 0, NONE, 0, 0, 3, BROKEN, 8, 0, 8],
+    // A plan that names a stand twice, one with a follower out of range, one that goes back to an earlier call.
+    [FULL, PLAN, 1, 2, NONE, 0, 0, 2, PAIR, 9, 0, 9],
+    [FULL, PLAN, 271, 272, NONE, 0, 0, 2, PAIR, 9, 0, 9],
+    [FULL, PLAN, 18, 21, PLAN, 20, 19, 2, PAIR, 9, 0, 9],
+    // Weights at the ends of their range and past them; that of a call, and that of a stand, above the others.
+    [HIGH, NONE, 0, 0, NONE, 0, 0, 2, PAIR, 0, 0, 7],
+    [LOW, NONE, 0, 0, NONE, 0, 0, 2, PAIR, 0, 0, 7],
+    [OVER, NONE, 0, 0, NONE, 0, 0, 2, PAIR, 10, 0, 10],
+    [UNDER, NONE, 0, 0, NONE, 0, 0, 2, PAIR, 10, 0, 10],
+    [FULL, WEIGHT, 271, 1, NONE, 0, 0, 2, PAIR, 10, 0, 10],
+    [FULL, WEIGHT, 15, 1, NONE, 0, 0, 2, PAIR, 10, 0, 10],
+    // A crane driven away: the last leg to its stand counts, and only the weights of stands tell that.
+    [FULL, STAND, 0, 1, NONE, 0, 0, 2, PAIR, 10, 0, 10],
+    [FULL, STAND, 0, 1, WEIGHT, 0, 7, 2, PAIR, 0, 0, 7],
+    // 3 before 6, 6 before 7, 7 before 4, 4 before 5, 5 before 8, 8 before 9, 9 before 10.
+    [FULL, CRANES, 0, 0, NONE, 0, 0, 0, PAIR, 3, 0, 3],
+    [FULL, CRANES, 0, 17, CALLS, 0, 257, 2, PAIR, 6, 0, 6],
+    [FULL, CALLS, 0, 257, NONE, 0, 0, 3, OWN, 7, 0, 7],
+    [FULL, STAND, 0, 3, NONE, 0, 0, 3, OWN, 4, 0, 4],
+    [FULL, STAND, 0, 3, NONE, 0, 0, 3, BROKEN, 5, 0, 5],
+    [FULL, PLAN, 1, 2, NONE, 0, 0, 3, BROKEN, 8, 0, 8],
+    [OVER, PLAN, 1, 2, NONE, 0, 0, 2, PAIR, 9, 0, 9],
+    // 10 before 5 of the call's place, and that before 7.
+    [OVER, NONE, 0, 0, NONE, 0, 0, 2, PAIR, 10, 2, 10],
+    [FULL, NONE, 0, 0, NONE, 0, 0, 2, PAIR, 0, 2, 5],
+];
 
 // The follower of stop p where the first crane serves every call in turn and every crane ends where it started.
 fn next(p: usize) -> u16
@@ -51,117 +126,254 @@ fn full(weight: i64) -> Book {
     }
 }
 
-// 1 where the test of a book over two places gives this number.
-fn gives(book: Book, number: u8) -> u64
-    ensures { λ r. ⌜ r ≤ 1 ⌝ }
-{
-    if base::number(book.test(2, pair())) == number {
-        return 1;
+// Whether two lists of places, or of followers, are the same.
+fn same_numbers(a: &[u16], b: &[u16]) -> bool {
+    if a.len() != b.len() {
+        return false;
+    }
+    let mut i = 0;
+    while i < a.len() {
+        if a[i] != b[i] {
+            return false;
+        }
+        i += 1;
+    }
+    true
+}
+
+// Whether the starts of two books are the same in every entry; then their stands, calls, plans and weights.
+fn same_starts(a: Book, b: Book) -> bool {
+    let one = a.starts;
+    let other = b.starts;
+    same_numbers(&one[..], &other[..])
+}
+
+fn same_stands(a: Book, b: Book) -> bool {
+    let one = a.stands;
+    let other = b.stands;
+    same_numbers(&one[..], &other[..])
+}
+
+fn same_requests(a: Book, b: Book) -> bool {
+    let one = a.requests;
+    let other = b.requests;
+    same_numbers(&one[..], &other[..])
+}
+
+fn same_plan(a: Book, b: Book) -> bool {
+    let one = a.plan;
+    let other = b.plan;
+    same_numbers(&one[..], &other[..])
+}
+
+fn same_weights(a: Book, b: Book) -> bool {
+    let one = a.weights;
+    let other = b.weights;
+    for i in 0..Book::STOPS {
+        if one[i] != other[i] {
+            return false;
+        }
+    }
+    true
+}
+
+// Whether two books are the same in every entry, those past their counts too.
+fn same(a: Book, b: Book) -> bool {
+    if a.cranes != b.cranes {
+        return false;
+    }
+    if a.calls != b.calls {
+        return false;
+    }
+    if !same_starts(a, b) {
+        return false;
+    }
+    if !same_stands(a, b) {
+        return false;
+    }
+    if !same_requests(a, b) {
+        return false;
+    }
+    if !same_plan(a, b) {
+        return false;
+    }
+    same_weights(a, b)
+}
+
+// Whether a call gives this number; where it is refused, with zeros and the book as it was given.
+fn serves(book: Book, places: usize, table: Table, place: u16, number: u32) -> bool {
+    let serving = book.serve(places, table, place);
+    let verdict = serving.verdict;
+    if base::number(verdict) as u32 != number {
+        return false;
+    }
+    if number == 0 {
+        return true;
+    }
+    if serving.crane != 0 {
+        return false;
+    }
+    if serving.metres != 0 {
+        return false;
+    }
+    if serving.least != 0 {
+        return false;
+    }
+    same(book, serving.book)
+}
+
+// A weight that a row's book begins with.
+fn weight(kind: u32) -> i64 {
+    if kind == HIGH {
+        return Book::WEIGHT;
+    }
+    if kind == LOW {
+        return -Book::WEIGHT;
+    }
+    if kind == OVER {
+        return Book::WEIGHT + 1;
+    }
+    if kind == UNDER {
+        return -Book::WEIGHT - 1;
+    }
+    if kind == ONE {
+        return 3;
     }
     0
 }
 
-// Counts and places out of their limits.
-fn limits() -> u64
-    ensures { λ r. ⌜ r ≤ 5 ⌝ }
-{
-    let mut no_cranes = full(0);
-    no_cranes.cranes = 0;
-    let mut many_cranes = full(0);
-    many_cranes.cranes = 17;
-    let mut many_calls = full(0);
-    many_calls.calls = 257;
-    let mut far_call = full(0);
-    far_call.requests[255] = 2;
-    let mut far_stand = full(0);
-    far_stand.stands[15] = 2;
-    gives(no_cranes, 6)
-        + gives(many_cranes, 6)
-        + gives(many_calls, 7)
-        + gives(far_call, 5)
-        + gives(far_stand, 5)
-}
-
-// Plans: one that names a crane twice, one with a follower out of range, one that goes back to an earlier call, and one with
-// entries past the counts, which are ignored.
-fn plans() -> u64
-    ensures { λ r. ⌜ r ≤ 4 ⌝ }
-{
-    let mut twice = full(0);
-    twice.plan[1] = 2;
-    let mut outside = full(0);
-    outside.plan[271] = 272;
-    let mut back = full(0);
-    back.plan[18] = 21;
-    back.plan[20] = 19;
-    let mut short = full(0);
-    short.calls = 0;
-    short.plan[0] = 0;
-    gives(twice, 9) + gives(outside, 9) + gives(back, 9) + gives(short, 0)
-}
-
-// Weights: at the ends of their range, past them, one of a call and one of a stand above the others.
-fn weights() -> u64
-    ensures { λ r. ⌜ r ≤ 6 ⌝ }
-{
-    let mut call = full(0);
-    call.weights[271] = 1;
-    let mut stand = full(0);
-    stand.weights[15] = 1;
-    gives(full(Book::WEIGHT), 0)
-        + gives(full(-Book::WEIGHT), 0)
-        + gives(full(Book::WEIGHT + 1), 10)
-        + gives(full(-Book::WEIGHT - 1), 10)
-        + gives(call, 10)
-        + gives(stand, 10)
-}
-
-// The stands moved: the last leg of a crane that is driven away counts, so the weights must tell it.
-fn stands() -> u64
-    ensures { λ r. ⌜ r ≤ 2 ⌝ }
-{
-    let mut away = full(0);
-    away.stands[0] = 1;
-    let mut told = away;
-    told.weights[0] = 7;
-    gives(away, 10) + gives(told, 0)
-}
-
-// The day of case A, with these starts.
-fn day(first: u16, second: u16) -> Day {
-    let mut starts = [0; Day::CRANES];
-    starts[0] = first;
-    starts[1] = second;
-    let mut requests = [0; Day::CALLS];
-    requests[0] = 1;
-    requests[2] = 1;
-    Day {
-        places: 3,
-        cranes: 2,
-        calls: 3,
-        starts,
-        requests,
+// The book that a row begins with.
+fn begun(kind: u32) -> Book {
+    let mut book = full(weight(kind));
+    if kind == ONE {
+        book.cranes = 1;
+        book.calls = 0;
+        book.plan[0] = 0;
     }
+    book
 }
 
-// 1 where opening a book gives this number, and the test of that book the next.
-fn opens(day: Day, number: u8, tested: u8) -> u64
-    ensures { λ r. ⌜ r ≤ 1 ⌝ }
-{
-    let table = crate::three(10, 20, 15);
-    let opening = Book::fresh(day, table);
-    let verdict = opening.verdict;
-    let book = opening.book;
-    if base::number(verdict) != number {
-        return 0;
+// The same book with one entry changed.
+fn changed(book: Book, what: u32, at: usize, value: u32) -> Book {
+    let mut other = book;
+    let number = (value % 65_536) as u16;
+    if what == CRANES {
+        other.cranes = value as usize;
     }
-    if base::number(book.test(3, table)) != tested {
-        return 0;
+    if what == CALLS {
+        other.calls = value as usize;
     }
-    1
+    if Book::STOPS <= at {
+        return other;
+    }
+    if what == PLAN {
+        other.plan[at] = number;
+    }
+    if what == WEIGHT {
+        other.weights[at] = value as i64;
+    }
+    if Book::CALLS <= at {
+        return other;
+    }
+    if what == CALL {
+        other.requests[at] = number;
+    }
+    if Book::CRANES <= at {
+        return other;
+    }
+    if what == START {
+        other.starts[at] = number;
+    }
+    if what == STAND {
+        other.stands[at] = number;
+    }
+    other
 }
 
-// How many of the books agree.
-pub(crate) fn agree() -> u64 {
-    limits() + plans() + weights() + stands() + opens(day(0, 2), 0, 0) + opens(day(0, 3), 5, 6)
+// The table of a row.
+fn table(kind: u32) -> Table {
+    if kind == PAIR {
+        return small::three(7, 0, 0);
+    }
+    let mut table = small::three(10, 26, 15);
+    if kind == OWN {
+        table[1][1] = 1;
+    }
+    table
+}
+
+// Whether the test of a book gives this number, and so do its costs.
+fn tests(book: Book, places: usize, table: Table, number: u32) -> bool {
+    let tested = book.test(places, table);
+    if base::number(tested) as u32 != number {
+        return false;
+    }
+    let costs = book.costs(places, table);
+    let told = costs.verdict;
+    base::number(told) as u32 == number
+}
+
+// Whether the book of a row gives the row's numbers.
+fn row_agrees(row: [u32; 12]) -> bool {
+    let places = row[7] as usize;
+    let first = changed(begun(row[0]), row[1], row[2] as usize, row[3]);
+    let book = changed(first, row[4], row[5] as usize, row[6]);
+    let table = table(row[8]);
+    if !tests(book, places, table, row[9]) {
+        return false;
+    }
+    serves(book, places, table, (row[10] % 64) as u16, row[11])
+}
+
+// Whether a call is served alike from a book with entries past its counts and from a fresh book, and the books after it are the same.
+fn ignored() -> bool {
+    let stopped = small::day(2, 1, 0, [0, 0, 0, 0], [0, 0, 0, 0, 0, 0]);
+    let opening = Book::fresh(stopped, table(PAIR));
+    let fresh = opening.book;
+    let one = begun(ONE);
+    let first = fresh.serve(2, table(PAIR), 1);
+    let second = one.serve(2, table(PAIR), 1);
+    if second.metres != 7 {
+        return false;
+    }
+    same(first.book, second.book)
+}
+
+// Whether a book's costs are these.
+fn costs_are(book: Book, places: usize, table: Table, least: u64, floor: u64) -> bool {
+    let costs = book.costs(places, table);
+    if costs.least != least {
+        return false;
+    }
+    costs.floor == floor
+}
+
+// All books. Then the costs of a crane driven away, of a fresh book, and of the book of zeros that a refused day opens.
+pub(crate) fn all() -> Tally {
+    let mut tally = Tally::none();
+    for i in 0..ROWS {
+        tally = tally.add(row_agrees(BOOKS[i]));
+    }
+    let away = changed(changed(begun(FULL), STAND, 0, 1), WEIGHT, 0, 7);
+    let opening = Book::fresh(refusals::day(), refusals::table());
+    let refused = Book::fresh(refusals::day(), small::three(10, 26, 15));
+    tally
+        .add(ignored())
+        .add(costs_are(away, 2, table(PAIR), 7, 0))
+        .add(costs_are(opening.book, 3, refusals::table(), 0, 0))
+        .add(tests(refused.book, 3, refusals::table(), 6))
+}
+
+// The book of case A served to its 256 calls, each accepted, and the next refused.
+pub(crate) fn fills() -> Tally {
+    let mut tally = Tally::none();
+    let opening = Book::fresh(refusals::day(), refusals::table());
+    let mut book = opening.book;
+    for i in 0..Book::CALLS {
+        let serving = book.serve(3, refusals::table(), (i % 3) as u16);
+        let verdict = serving.verdict;
+        tally = tally.add(base::number(verdict) == 0);
+        book = serving.book;
+    }
+    tally.add(serves(book, 3, refusals::table(), 0, 7))
 }

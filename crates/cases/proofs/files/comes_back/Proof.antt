@@ -1,10 +1,11 @@
--- `cases::comes_back` is safe: no more is compared than the buffer holds.
+-- `cases::files::comes_back` is safe: no more is compared than the buffer holds.
 -- Assumes nothing.
 use mathlib.Core.Path.{sym}
-use borrow.Author.Needs.{needs}
 use lib.Seq.{length-take-le}
-use Rattle.cases.proofs.comes_back.Statement.{statement}
-use Rattle.cases.proofs.comes_back.Tie as tie
+use borrow.Author.Needs.{needs}
+use borrow.Author.Needs.{needs}
+use Rattle.cases.proofs.files.comes_back.Statement.{statement}
+use Rattle.cases.proofs.files.comes_back.Tie as tie
 
 read-table-requires : tie.Need-read-table-requires
 read-table-requires c κs = search needs

@@ -1,0 +1,55 @@
+-- `cases::brute::floor` is safe: the loop goes through the positions.
+-- Assumes nothing.
+use Prim.Native.Nat.{_-_, _≤_}
+use borrow.Author.Needs.{needs}
+use Rattle.cases.proofs.brute.floor.Statement.{statement}
+use Rattle.cases.proofs.brute.floor.Tie as tie
+
+abbrev Inv-loop : tie.InvT-loop
+Inv-loop table size reached least₀ code₀ least code = code ≤ 625
+
+abbrev μ-loop : tie.MeasureT-loop
+μ-loop table size reached least₀ code₀ least code = 625 - code
+
+loop-holds : tie.Need-loop-holds Inv-loop μ-loop
+loop-holds c = search needs
+
+position-requires : tie.Need-position-requires Inv-loop μ-loop
+position-requires c κs = search needs
+
+listed-requires : tie.Need-listed-requires Inv-loop μ-loop
+listed-requires c κs = search needs
+
+work-requires : tie.Need-work-requires Inv-loop μ-loop
+work-requires c κs = search needs
+
+lesser-requires : tie.Need-lesser-requires Inv-loop μ-loop
+lesser-requires c κs = search needs
+
+add-code : tie.Need-add-code Inv-loop μ-loop
+add-code c = search needs
+
+loop-less : tie.Need-loop-less Inv-loop μ-loop
+loop-less c = search needs
+
+loop-again : tie.Need-loop-again Inv-loop μ-loop
+loop-again c = search needs
+
+returns : tie.Need-returns Inv-loop μ-loop
+returns c = search needs
+
+pub floor-spec : {M : Type 1} → statement M
+floor-spec =
+    tie.close
+    (tie.spec
+    Inv-loop
+    μ-loop
+    loop-holds
+    position-requires
+    listed-requires
+    work-requires
+    lesser-requires
+    add-code
+    loop-less
+    loop-again
+    returns)

@@ -1,0 +1,147 @@
+-- Document 01's cases marked P, as one table: what is given, and what document 01 says of it.
+use Prim.Native.Nat.{ℕ, _-_}
+use mathlib.Core.Bool.{Bool, true, false, _&&_}
+use mathlib.Core.List.{List, [], _∷_, _++_, map}
+use lib.Dec.{eqb}
+use lib.ListN.{length, replicate}
+use Rattle.base.specs.Lists.{upTo}
+use Rattle.road.specs.Table.{distance, tableRefusal}
+use Rattle.dayfile.specs.File.{readFile}
+use Rattle.workfunction.specs.Choice.{moveSum}
+use Rattle.book.specs.Book.{startsOf, standsOf, requestsOf, freshOf}
+use Rattle.book.specs.Serving.{Outcome, servedOf, TwoCosts, costsOf}
+use Rattle.book.specs.declared.Book.{Book}
+use Rattle.report.specs.Report.{printOf}
+
+pub data Case : Type 0 where
+  -- a road table of so many places: its refusal, 0 where it is accepted
+  table : ℕ → List (List ℕ) → ℕ → Case
+  -- the bytes of a day file: its refusal, 0 where it is accepted, and the index that goes with it
+  file : List ℕ → ℕ → ℕ → Case
+  -- the fresh book of a road table and of starts: its least and its floor
+  fresh : List (List ℕ) → List ℕ → ℕ → ℕ → Case
+  -- a call to that book, at a place: the sum of each crane's move; then the crane, the metres and the least returned
+  served : List (List ℕ) → List ℕ → ℕ → List ℕ → ℕ → ℕ → ℕ → Case
+  -- the bytes of a day file: all bytes of the print
+  print : List ℕ → List ℕ → Case
+
+-- one place
+abbrev one : List (List ℕ)
+one = (0 ∷ []) ∷ []
+
+-- two places, by the leg (0,1)
+abbrev pair : ℕ → List (List ℕ)
+pair a = (0 ∷ a ∷ []) ∷ (a ∷ 0 ∷ []) ∷ []
+
+-- three places, by the legs (0,1), (0,2), (1,2)
+abbrev three : ℕ → ℕ → ℕ → List (List ℕ)
+three a b c = (0 ∷ a ∷ b ∷ []) ∷ (a ∷ 0 ∷ c ∷ []) ∷ (b ∷ c ∷ 0 ∷ []) ∷ []
+
+-- the record of a leg, its metres given by their four bytes; of a crane; and of a call
+abbrev leg : ℕ → ℕ → ℕ → ℕ → ℕ → ℕ → List ℕ
+leg u v a b c d = 1 ∷ 0 ∷ u ∷ 0 ∷ v ∷ 0 ∷ 0 ∷ 0 ∷ a ∷ b ∷ c ∷ d ∷ []
+
+abbrev crane : ℕ → List ℕ
+crane p = 2 ∷ 0 ∷ p ∷ 0 ∷ 0 ∷ 0 ∷ 0 ∷ 0 ∷ 0 ∷ 0 ∷ 0 ∷ 0 ∷ []
+
+abbrev call : ℕ → List ℕ
+call p = 3 ∷ 0 ∷ p ∷ 0 ∷ 0 ∷ 0 ∷ 0 ∷ 0 ∷ 0 ∷ 0 ∷ 0 ∷ 0 ∷ []
+
+-- case A: "legs 10, 20, 15 for (0,1), (0,2), (1,2); cranes at 0 and 2; calls 1, 0, 1 (96 bytes)"
+abbrev fileA : List ℕ
+fileA = leg 0 1 10 0 0 0 ++ leg 0 2 20 0 0 0 ++ leg 1 2 15 0 0 0 ++ crane 0 ++ crane 2 ++ call 1 ++ call 0 ++ call 1
+
+-- "All of the output"
+abbrev printA : List ℕ
+printA =
+    -- call 0 crane 0 metres 10 least 10
+    99 ∷ 97 ∷ 108 ∷ 108 ∷ 32 ∷ 48 ∷ 32 ∷ 99 ∷ 114 ∷ 97 ∷ 110 ∷ 101 ∷ 32 ∷ 48 ∷ 32 ∷ 109 ∷ 101 ∷ 116 ∷ 114 ∷ 101 ∷ 115 ∷ 32 ∷ 49 ∷ 48 ∷
+    32 ∷ 108 ∷ 101 ∷ 97 ∷ 115 ∷ 116 ∷ 32 ∷ 49 ∷ 48 ∷ 10 ∷
+    -- call 1 crane 0 metres 10 least 20
+    99 ∷ 97 ∷ 108 ∷ 108 ∷ 32 ∷ 49 ∷ 32 ∷ 99 ∷ 114 ∷ 97 ∷ 110 ∷ 101 ∷ 32 ∷ 48 ∷ 32 ∷ 109 ∷ 101 ∷ 116 ∷ 114 ∷ 101 ∷ 115 ∷ 32 ∷ 49 ∷ 48 ∷
+    32 ∷ 108 ∷ 101 ∷ 97 ∷ 115 ∷ 116 ∷ 32 ∷ 50 ∷ 48 ∷ 10 ∷
+    -- call 2 crane 1 metres 15 least 15
+    99 ∷ 97 ∷ 108 ∷ 108 ∷ 32 ∷ 50 ∷ 32 ∷ 99 ∷ 114 ∷ 97 ∷ 110 ∷ 101 ∷ 32 ∷ 49 ∷ 32 ∷ 109 ∷ 101 ∷ 116 ∷ 114 ∷ 101 ∷ 115 ∷ 32 ∷ 49 ∷ 53 ∷
+    32 ∷ 108 ∷ 101 ∷ 97 ∷ 115 ∷ 116 ∷ 32 ∷ 49 ∷ 53 ∷ 10 ∷
+    -- driven 35 floor 15
+    100 ∷ 114 ∷ 105 ∷ 118 ∷ 101 ∷ 110 ∷ 32 ∷ 51 ∷ 53 ∷ 32 ∷ 102 ∷ 108 ∷ 111 ∷ 111 ∷ 114 ∷ 32 ∷ 49 ∷ 53 ∷ 10 ∷ []
+
+unfoldable pub cases : List Case
+cases =
+    -- "Case A, marked P"
+    print fileA printA ∷
+    -- "one place, one crane, one call at 0: crane 0, metres 0, least 0"
+    served one (0 ∷ []) 0 (0 ∷ []) 0 0 0 ∷
+    -- "legs 10, 20, 10, cranes at 0 and 2, call 1: both give 20; crane 0"
+    served (three 10 20 10) (0 ∷ 2 ∷ []) 1 (20 ∷ 20 ∷ []) 0 10 10 ∷
+    -- "two cranes at 0, call at 1 by a leg of 7: crane 0, metres 7"
+    served (pair 7) (0 ∷ 0 ∷ []) 1 (14 ∷ 14 ∷ []) 0 7 7 ∷
+    -- "a fresh book: least 0, floor 0": the three above, and case A's
+    fresh one (0 ∷ []) 0 0 ∷
+    fresh (three 10 20 10) (0 ∷ 2 ∷ []) 0 0 ∷
+    fresh (pair 7) (0 ∷ 0 ∷ []) 0 0 ∷
+    fresh (three 10 20 15) (0 ∷ 2 ∷ []) 0 0 ∷
+    -- "legs 10, 25, 15 accepted. P: 10, 26, 15 give 8."
+    table 3 (three 10 25 15) 0 ∷
+    table 3 (three 10 26 15) 8 ∷
+    -- "metres 1,000,000 accepted. P: 1,000,001 give 4. P: 0 give 4."
+    table 2 (pair 1000000) 0 ∷
+    table 2 (pair 1000001) 4 ∷
+    table 2 (pair 0) 4 ∷
+    -- the same as files: 1,000,000 is 64 + 66 · 256 + 15 · 65,536
+    file (leg 0 1 10 0 0 0 ++ leg 0 2 25 0 0 0 ++ leg 1 2 15 0 0 0 ++ crane 0) 0 0 ∷
+    file (leg 0 1 10 0 0 0 ++ leg 0 2 26 0 0 0 ++ leg 1 2 15 0 0 0 ++ crane 0) 8 0 ∷
+    file (leg 0 1 64 66 15 0 ++ crane 0) 0 0 ∷
+    file (leg 0 1 65 66 15 0 ++ crane 0) 4 0 ∷
+    file (leg 0 1 0 0 0 0 ++ crane 0) 4 0 ∷
+    -- "an empty file gives 6, record 0"
+    file [] 6 0 ∷
+    []
+
+-- the array of n entries that begins with l, and z past it
+abbrev array : {A : Type 0} → ℕ → A → List A → List A
+array n z l = l ++ replicate (n - length l) z
+
+-- the metres of a road table, by the rows of its places
+abbrev metres : List (List ℕ) → ℕ → ℕ → ℕ
+metres rows = distance (array 64 (replicate 64 0) (map (array 64 0) rows))
+
+-- the book that is opened for a day without calls
+abbrev opened : List (List ℕ) → List ℕ → Book
+opened rows starts =
+    freshOf
+    (record { places = length rows; cranes = length starts; calls = 0; starts = array 16 0 starts; requests = replicate 256 0 })
+    (metres rows) .book
+
+-- w(C(s)) + d(s,r) of each crane s
+abbrev sums : List (List ℕ) → Book → ℕ → List ℕ
+sums rows book r =
+    upTo (book .cranes) (moveSum (metres rows) (length rows) (startsOf book) (requestsOf book) (standsOf book) r)
+
+-- two lists have the same entries
+unfoldable pub same : List ℕ → List ℕ → Bool
+same [] [] = true
+same [] (b ∷ m) = false
+same (a ∷ l) [] = false
+same (a ∷ l) (b ∷ m) = eqb a b && same l m
+
+-- these costs, of an accepted book
+abbrev costs : ℕ → ℕ → TwoCosts → Bool
+costs w f c = eqb (c .number) 0 && eqb (c .least) w && eqb (c .floor) f
+
+-- these figures, of an accepted call
+abbrev figures : ℕ → ℕ → ℕ → Outcome → Bool
+figures s m w o = eqb (o .number) 0 && eqb (o .figures .crane) s && eqb (o .figures .metres) m && eqb (o .figures .least) w
+
+-- The figures of a call do not depend on the plan and the weights of the book after it, which are left out.
+unfoldable pub agrees : Case → Bool
+agrees (table n rows r) = eqb (tableRefusal n (metres rows)) r
+agrees (file bs n i) = eqb (readFile bs .number) n && eqb (readFile bs .index) i
+agrees (fresh rows starts w f) = costs w f (costsOf (opened rows starts) (length rows) (metres rows))
+agrees (served rows starts r l s m w) =
+    same (sums rows (opened rows starts) r) l && figures s m w (servedOf (opened rows starts) (length rows) (metres rows) r [] [])
+agrees (print bs out) = same (printOf bs) out
+
+unfoldable pub allAgree : List Case → Bool
+allAgree [] = true
+allAgree (c ∷ cs) = agrees c && allAgree cs
