@@ -9,38 +9,41 @@ ghost use Rattle.base.specs.Numbers.{numberOf, unless};
 ghost use Rattle.base.specs.Tests.{allBelow};
 ghost use Rattle.road.specs.Table.{distance, wayRule, triangleRefusal};
 
-// 8 unless a way of two legs is at least as long as the road.
-fn test_lengths(first: u32, second: u32, road: u32) -> Verdict
-    ensures { λ r. ⌜ numberOf r ≡ unless (leb road (first + second)) 8 ⌝ }
+// Whether a way of two legs is at least as long as the road. The rest of the road past the first leg is compared with the
+// second, since the sum of the legs may not fit.
+fn no_shorter(first: u32, second: u32, road: u32) -> bool
+    ensures { λ r. ⌜ r ≡ leb road (first + second) ⌝ }
 {
-    if first as u64 + (second as u64) < road as u64 {
-        return Verdict::Refused(Refusal::Triangle);
+    if road <= first {
+        return true;
     }
-    Verdict::Accepted
+    road - first <= second
 }
 
-// 8 unless the way from u by v to w is at least as long as the road.
-fn test_way(table: &Table, u: usize, v: usize, w: usize) -> Verdict
+// Whether the way from u by v to w is at least as long as the road.
+fn way_keeps(table: &Table, u: usize, v: usize, w: usize) -> bool
     requires { ⌜ (u < 64) × ((v < 64) × (w < 64)) ⌝ }
-    ensures { λ r. ⌜ numberOf r ≡ unless (wayRule (distance (now (table .entry))) u v w) 8 ⌝ }
+    ensures { λ r. ⌜ r ≡ wayRule (distance (now (table .entry))) u v w ⌝ }
 {
-    test_lengths(table[u][v], table[v][w], table[u][w])
+    no_shorter(table[u][v], table[v][w], table[u][w])
 }
 
-// 8 unless every way from u by v is at least as long as the road.
+// 8 unless every way from u by v is at least as long as the road. The loop has no way out before its end, so that it can
+// compile to several places at a time.
 fn test_by(table: &Table, places: usize, u: usize, v: usize) -> Verdict
     requires { ⌜ (places ≤ 64) × ((u < 64) × (v < 64)) ⌝ }
     ensures { λ r. ⌜ numberOf r ≡ unless (allBelow places (wayRule (distance (now (table .entry))) u v)) 8 ⌝ }
 {
+    let mut kept = true;
     let mut w = 0;
     while w < places {
-        let way = test_way(table, u, v, w);
-        let Verdict::Accepted = way else {
-            return way;
-        };
+        kept = kept & way_keeps(table, u, v, w);
         w += 1;
     }
-    Verdict::Accepted
+    if kept {
+        return Verdict::Accepted;
+    }
+    Verdict::Refused(Refusal::Triangle)
 }
 
 // 8 unless every way from u by another place is at least as long as the road.

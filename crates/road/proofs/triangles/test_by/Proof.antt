@@ -1,11 +1,13 @@
--- `road::triangles::test_by` meets its contract: the loop passes the places w to which the way from u by v is no shorter than the road.
+-- `road::triangles::test_by` meets its contract: the loop keeps whether no way from u by v to a place below w is shorter than the road.
 -- Assumes nothing.
-use Prim.Native.Nat.{ℕ, _-_}
-use mathlib.Core.Bool.{Bool}
+use Prim.Native.Nat.{ℕ, _+_, _-_, _≤_, zero-le}
+use mathlib.Core.Bool.{Bool, true, false, _&&_}
 use mathlib.Core.List.{List}
+use mathlib.Core.Path.{_≡_, refl, sym, ap₂, subst, _∙_}
 use borrow.Author.Needs.{needs}
-use Rattle.base.proofs.Numbers.{holds, stops}
-use Rattle.base.proofs.Tests.{Passed, begun, turned, ended, below-fails}
+use native.Mathlib.Nat.{le-antisymm}
+use native.Mathlib.Numerals.{add-one}
+use Rattle.base.specs.Tests.{allBelow}
 use Rattle.road.specs.Table.{distance, wayRule}
 use Rattle.road.proofs.triangles.test_by.Statement.{statement}
 use Rattle.road.proofs.triangles.test_by.Tie as tie
@@ -15,30 +17,17 @@ abbrev rule : List (List ℕ) → ℕ → ℕ → ℕ → Bool
 rule table u v = wayRule (distance table) u v
 
 abbrev Inv-loop : tie.InvT-loop
-Inv-loop table places u v w₀ w = Passed places (rule table u v) w
+Inv-loop table places u v kept₀ w₀ kept w = (w ≤ places) × (allBelow w (rule table u v) ≡ kept)
 
 abbrev μ-loop : tie.MeasureT-loop
-μ-loop table places u v w₀ w = places - w
+μ-loop table places u v kept₀ w₀ kept w = places - w
 
 loop-holds : tie.Need-loop-holds Inv-loop μ-loop
-loop-holds c = begun _ _
+unfolding allBelow
+loop-holds c = (zero-le, refl)
 
-test-way-requires : tie.Need-test-way-requires Inv-loop μ-loop
-test-way-requires c κs = search needs
-
-enum-told : tie.Need-enum-told Inv-loop μ-loop
-enum-told c = search needs
-
-enum-told-2 : tie.Need-enum-told-2 Inv-loop μ-loop
-enum-told-2 c = search needs
-
-returns : tie.Need-returns Inv-loop μ-loop
-returns c =
-    let l = c .before .before .before .before in
-    let a = l .before .args in
-    let e = c .enum-told2 .given in
-    stops _ (e .0 .0) (e .1) _ _ 8 (c .before .before .test-way .ensures)
-    (below-fails (rule (a .table .now) (a .u) (a .v)) (a .places) (l .loop .w) (c .before .before .before .loop-test .taken))
+way-keeps-requires : tie.Need-way-keeps-requires Inv-loop μ-loop
+way-keeps-requires c κs = search needs
 
 add-w : tie.Need-add-w Inv-loop μ-loop
 add-w c = search needs
@@ -47,13 +36,22 @@ loop-less : tie.Need-loop-less Inv-loop μ-loop
 loop-less c = search needs
 
 loop-again : tie.Need-loop-again Inv-loop μ-loop
-loop-again c =
-    let l = c .before .before .before .before in
-    turned _ _ (l .loop .w) (l .loop .inv) (c .before .before .before .loop-test .taken)
-    (holds _ _ 7 (c .enum-told .given .1) (c .before .before .test-way .ensures))
+unfolding allBelow
+loop-again c = (search needs, rw (add-one) (ap₂ _&&_ (c .before .before .loop .inv .1) (sym (c .way-keeps .ensures))))
+
+-- what the loop kept, once it has passed the n places, is the test of them all
+ended : (n i : ℕ) (P : ℕ → Bool) (kept : Bool) → i ≤ n → n ≤ i → allBelow i P ≡ kept → allBelow n P ≡ kept
+ended n i P kept most least all = subst (λ (k : ℕ). allBelow k P ≡ kept) (le-antisymm most least) all
+
+returns : tie.Need-returns Inv-loop μ-loop
+returns c =
+    let l = c .before .before .loop in
+    rw (ended _ _ _ true (l .inv .0) (c .before .loop-test .left) (l .inv .1 ∙ c .if1 .taken))
 
 returns-2 : tie.Need-returns-2 Inv-loop μ-loop
-returns-2 c = rw (ended _ _ (c .before .loop .w) (c .before .loop .inv) (c .loop-test .left))
+returns-2 c =
+    let l = c .before .before .loop in
+    rw (ended _ _ _ false (l .inv .0) (c .before .loop-test .left) (l .inv .1 ∙ c .if1 .left))
 
 pub test-by-spec : {M : Type 1} → statement M
 test-by-spec =
@@ -62,11 +60,9 @@ test-by-spec =
     Inv-loop
     μ-loop
     loop-holds
-    test-way-requires
-    enum-told
-    enum-told-2
-    returns
+    way-keeps-requires
     add-w
     loop-less
     loop-again
+    returns
     returns-2)
