@@ -40,15 +40,19 @@ pub record Begun (N : ℕ) (row total parent rank : ℕ → ℕ) : Type 0 where
   pub unsettled : (p : ℕ) → p < N → rank p ≡ 272
   pub source : rank N ≡ 0
 
--- q is an open stop of least key below N, the key of p being total p + head p
-pub record Least (N : ℕ) (head total rank : ℕ → ℕ) (q : ℕ) : Type 0 where
-  pub below : q < N
-  pub unsettled : rank q ≡ 272
-  pub least : (p : ℕ) → p < N → rank p ≡ 272 → total q + head q ≤ total p + head p
+-- every key below N is a u64, the key of p being total p + head p
+pub record Fitting (N : ℕ) (head total : ℕ → ℕ) : Type 0 where
+  pub fits : (p : ℕ) → p < N → total p + head p < 18446744073709551616
 
--- the same, or none is open
-abbrev pub Picked : ℕ → (ℕ → ℕ) → (ℕ → ℕ) → (ℕ → ℕ) → ℕ → Type 0
-Picked N head total rank q = Least N head total rank q ⊎ ((p : ℕ) → p < N → rank p ≡ 272 → ⊥)
+-- q is a stop of least key below N, and that is below 2^63
+pub record Nearest (N : ℕ) (head total : ℕ → ℕ) (q : ℕ) : Type 0 where
+  pub below : q < N
+  pub near : total q + head q < 9223372036854775808
+  pub least : (p : ℕ) → p < N → total q + head q ≤ total p + head p
+
+-- the same, or no key is below 2^63
+abbrev pub Picked : ℕ → (ℕ → ℕ) → (ℕ → ℕ) → ℕ → Type 0
+Picked N head total q = Nearest N head total q ⊎ ((p : ℕ) → p < N → 9223372036854775808 ≤ total p + head p)
 
 -- the way over the stop `from`, of net cost `net`, is no better for p
 pub record Kept (limit net : ℕ) (row total parent total' parent' : ℕ → ℕ) (p : ℕ) : Type 0 where
@@ -66,10 +70,6 @@ pub record Bettered (limit net from : ℕ) (row total total' parent' : ℕ → �
 -- one row of work: one or the other holds of each stop
 pub record Relaxed (limit net from : ℕ) (row total parent total' parent' : ℕ → ℕ) : Type 0 where
   pub each : (p : ℕ) → Kept limit net row total parent total' parent' p ⊎ Bettered limit net from row total total' parent' p
-
--- every key is below 2^63, from which the least is sought
-pub record Low (N : ℕ) (head total : ℕ → ℕ) : Type 0 where
-  pub low : (p : ℕ) → p < N → total p + head p < 9223372036854775808
 
 -- what the rounds stand on: a plan of N stops, leg costs within the limit of a leg, and heads that vouch, up to 2^42
 pub record Ready (k N : ℕ) (f : ℕ → ℕ) (c : ℕ → ℕ → ℕ) (head : ℕ → ℕ) : Type 0 where

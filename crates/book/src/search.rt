@@ -8,7 +8,7 @@ ghost use lib.IntN.{pos, _-ℤ_};
 ghost use lib.ListN.{length};
 ghost use Rattle.book.specs.Book.{follower, weight, weightRule};
 ghost use Rattle.book.specs.Legs.{legAt, Weighed};
-ghost use Rattle.book.specs.Search.{at, netBase, headOf, reach, Begun, Low, Picked, Relaxed, Ready, Sized, Witnessed, Searched};
+ghost use Rattle.book.specs.Search.{at, netBase, headOf, reach, Begun, Fitting, Picked, Relaxed, Ready, Sized, Witnessed, Searched};
 
 // The net cost of the new call, from which the others are counted, so that none is below 0.
 pub(crate) const BASE: u64 = 1_099_511_627_776;
@@ -19,7 +19,7 @@ const LIFT: i64 = 1_099_512_676_352;
 // The rank of a stop that is not settled.
 const OPEN: usize = Book::STOPS;
 
-// Above every key.
+// Above the key of every open stop; the head of a settled one.
 const FAR: u64 = 9_223_372_036_854_775_808;
 
 // The head of a stop: the weight of its follower, raised, less the leg to it.
@@ -58,21 +58,19 @@ fn begin(new: usize, row: &[u32], totals: &mut [u64], parents: &mut [usize], ran
     ranks[new] = 0;
 }
 
-// The open stop of least key below `new`, or `new` where none is open.
-fn pick(new: usize, heads: &[u64], totals: &[u64], ranks: &[usize]) -> usize
-    requires { ⌜ (new ≤ length (now heads)) × ((new ≤ length (now totals)) × ((new ≤ length (now ranks)) × Low new (at (now heads)) (at (now totals)))) ⌝ }
-    ensures { λ r. ⌜ Picked new (at (now (heads .entry))) (at (now (totals .entry))) (at (now (ranks .entry))) r ⌝ }
+// The stop of least key below `new`, or `new` where no key is below FAR.
+fn pick(new: usize, heads: &[u64], totals: &[u64]) -> usize
+    requires { ⌜ (new ≤ length (now heads)) × ((new ≤ length (now totals)) × Fitting new (at (now heads)) (at (now totals))) ⌝ }
+    ensures { λ r. ⌜ Picked new (at (now (heads .entry))) (at (now (totals .entry))) r ⌝ }
 {
     let mut best = new;
     let mut least = FAR;
     let mut p = 0;
     while p < new {
-        if ranks[p] == OPEN {
-            let key = totals[p] + heads[p];
-            if key < least {
-                best = p;
-                least = key;
-            }
+        let key = totals[p] + heads[p];
+        if key < least {
+            best = p;
+            least = key;
         }
         p += 1;
     }
@@ -125,13 +123,13 @@ fn settle(
     relax(&costs[row..end], net, q, totals, parents);
 }
 
-// Settles the stops below `new`, each in its turn the open one of least key.
+// Settles the stops below `new`, each in its turn the open one of least key. It is not picked again: its head becomes FAR.
 fn rounds(
     cranes: usize,
     new: usize,
     plan: &[u16],
-    heads: &[u64],
     costs: &[u32],
+    heads: &mut [u64],
     totals: &mut [u64],
     parents: &mut [usize],
     ranks: &mut [usize],
@@ -141,7 +139,8 @@ fn rounds(
 {
     let mut rank = 1;
     while rank <= new {
-        let q = pick(new, heads, totals, ranks);
+        let q = pick(new, heads, totals);
+        heads[q] = FAR;
         ranks[q] = rank;
         settle(cranes, new, plan, costs, q, totals, parents);
         rank += 1;
@@ -167,7 +166,16 @@ pub(crate) fn search(
     fill_heads(new, plan, weights, costs, &mut heads[..]);
     let row = legs::ROW * new;
     begin(new, &costs[row..row + new + 1], totals, parents, ranks);
-    rounds(cranes, new, plan, &heads[..], costs, totals, parents, ranks);
+    rounds(
+        cranes,
+        new,
+        plan,
+        costs,
+        &mut heads[..],
+        totals,
+        parents,
+        ranks,
+    );
 }
 
 // The net cost of freeing the follower of a stop, from its total and the leg to that follower.

@@ -153,7 +153,8 @@ fn found(row: [[u32; 4]; 7]) -> bool {
 pub(crate) fn all() -> Tally {
     let mut tally = Tally::none();
     for i in 0..ROWS {
-        tally = tally.add(told(DAYS[i])).add(found(DAYS[i]));
+        let row = DAYS[i];
+        tally = tally.add(told(row)).add(found(row));
     }
     tally
 }

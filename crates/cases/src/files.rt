@@ -193,20 +193,25 @@ fn set(file: &mut [u8], at: usize, byte: u8) {
     }
 }
 
+// The two low bytes of a number.
+fn set_two(file: &mut [u8], at: usize, number: u32) {
+    if MOST < at {
+        return;
+    }
+    set(file, at, (number % 256) as u8);
+    set(file, at + 1, (number / 256 % 256) as u8);
+}
+
 // One record from a byte of a file on, where its bytes are 0.
 fn put(file: &mut [u8], at: usize, kind: u32, first: u32, second: u32, metres: u32) {
     if MOST < at {
         return;
     }
-    set(file, at, (kind % 256) as u8);
-    set(file, at + 2, (first % 256) as u8);
-    set(file, at + 3, (first / 256 % 256) as u8);
-    set(file, at + 4, (second % 256) as u8);
-    set(file, at + 5, (second / 256 % 256) as u8);
-    set(file, at + 8, (metres % 256) as u8);
-    set(file, at + 9, (metres / 256 % 256) as u8);
-    set(file, at + 10, (metres / 65_536 % 256) as u8);
-    set(file, at + 11, (metres / 16_777_216 % 256) as u8);
+    set_two(file, at, kind % 256);
+    set_two(file, at + 2, first);
+    set_two(file, at + 4, second);
+    set_two(file, at + 8, metres);
+    set_two(file, at + 10, metres / 65_536);
 }
 
 // The record of a number.

@@ -13,7 +13,8 @@ mod small;
 mod tables;
 mod tally;
 
-fn main() {
+// Tables, files, days and books, accepted and refused.
+fn tests() {
     let tables = tables::all();
     tables.print(b"tables");
     let files = files::all();
@@ -24,10 +25,18 @@ fn main() {
     books.print(b"books");
     let fills = books::fills();
     fills.print(b"a book filled");
+}
+
+// Days with their figures, and their print.
+fn figures() {
     let edges = edges::all();
     edges.print(b"edges and wrong turns");
     let prints = prints::all();
     prints.print(b"prints");
+}
+
+// The days that are searched.
+fn searches() {
     let every = days::all();
     every.print(b"every small day");
     let random = days::random();
@@ -37,4 +46,10 @@ fn main() {
     tied.print(b"random days with equal sums");
     let restored = restored::all();
     restored.print(b"restored books");
+}
+
+fn main() {
+    tests();
+    figures();
+    searches();
 }

@@ -10,7 +10,7 @@ use native.Mathlib.Decide.{ℕ-discrete, decLt}
 use native.Mathlib.Omega.{arith}
 use Rattle.workfunction.specs.Lists.{sumBelow}
 use Rattle.workfunction.proofs.Sums.{sum-at, sum-but-one}
-use Rattle.book.specs.Search.{netBase, reach, Begun, Least, Picked, Kept, Bettered, Relaxed, Low, Ready, Searched}
+use Rattle.book.specs.Search.{netBase, reach, Begun, Fitting, Picked, Kept, Bettered, Relaxed, Ready, Searched}
 
 -- ---- how far a follower reaches
 
@@ -61,10 +61,38 @@ unfolding sumBelow opened
 none-open zero rank h = refl
 none-open (suc n) rank h = rw (none-open n rank (λ p l. h p (omega arith)), ne-eqb (rank n) 272 (h n (omega arith)))
 
--- stop q takes the rank i, the others keep theirs
-pub record Ranked (q i : ℕ) (rank rank' : ℕ → ℕ) : Type 0 where
-  pub here : rank' q ≡ i
-  pub others : (p : ℕ) → (p ≡ q → ⊥) → rank' p ≡ rank p
+-- stop q takes the value v, the others keep theirs
+pub record Given (q v : ℕ) (old new : ℕ → ℕ) : Type 0 where
+  pub here : new q ≡ v
+  pub others : (p : ℕ) → (p ≡ q → ⊥) → new p ≡ old p
+
+-- ---- the heads as they are read: 2^63 at the settled stops
+
+pub record Masked (N : ℕ) (head rank mask : ℕ → ℕ) : Type 0 where
+  pub unsettled : (p : ℕ) → p < N → rank p ≡ 272 → mask p ≡ head p
+  pub settled : (p : ℕ) → p < N → (rank p ≡ 272 → ⊥) → mask p ≡ 9223372036854775808
+
+pub mask-begun : {N : ℕ} {head rank : ℕ → ℕ} → ((p : ℕ) → p < N → rank p ≡ 272) → Masked N head rank head
+mask-begun all = record { unsettled = λ p lt o. refl; settled = λ p lt m. absurd (m (all p lt)) }
+
+module _ {N q i : ℕ} {head rank rank' mask mask' : ℕ → ℕ} (m : Masked N head rank mask) (below : i < 272) (ranked : Given q i rank rank')
+    (far : Given q 9223372036854775808 mask mask') where
+  pub mask-turned : Masked N head rank' mask'
+  mask-turned = record { unsettled = λ p lt o. opens p lt o (ℕ-discrete p q); settled = λ p lt n. closes p lt n (ℕ-discrete p q) }
+    where
+      opens : (p : ℕ) → p < N → rank' p ≡ 272 → Dec (p ≡ q) → mask' p ≡ head p
+      opens p lt o (yes e) = absurd (let h : rank' p ≡ i = rw e (ranked .here) in omega arith)
+      opens p lt o (no n) = far .others p n ∙ m .unsettled p lt (sym (ranked .others p n) ∙ o)
+
+      closes : (p : ℕ) → p < N → (rank' p ≡ 272 → ⊥) → Dec (p ≡ q) → mask' p ≡ 9223372036854775808
+      closes p lt s (yes e) = rw e (far .here)
+      closes p lt s (no n) = far .others p n ∙ m .settled p lt (λ o. s (ranked .others p n ∙ o))
+
+-- q is an open stop of least key below N
+pub record Least (N : ℕ) (head total rank : ℕ → ℕ) (q : ℕ) : Type 0 where
+  pub below : q < N
+  pub unsettled : rank q ≡ 272
+  pub least : (p : ℕ) → p < N → rank p ≡ 272 → total q + head q ≤ total p + head p
 
 -- ---- the invariant: i is the rank of the next stop
 
@@ -151,17 +179,39 @@ module _ {k N : ℕ} {f : ℕ → ℕ} {c : ℕ → ℕ → ℕ} {head : ℕ →
         let i-most = rounds-most in
         omega arith
 
-    pub keys-low : Low N head total
-    keys-low = record { low = λ p lt. let h = s .high p (omega arith) in let g = ready .high p lt in omega arith }
+    module _ {mask : ℕ → ℕ} (m : Masked N head rank mask) where
+      pub keys-fit : Fitting N mask total
+      keys-fit = record { fits = λ p lt. go p lt (ℕ-discrete (rank p) 272) }
+        where
+          go : (p : ℕ) → p < N → Dec (rank p ≡ 272) → total p + mask p < 18446744073709551616
+          go p lt (yes o) = let e = m .unsettled p lt o in let h = s .high p (omega arith) in let g = ready .high p lt in omega arith
+          go p lt (no n) = let e = m .settled p lt n in let h = s .high p (omega arith) in omega arith
 
-    -- while stops are left, one of them is picked
-    pub some-open : {q : ℕ} → i ≤ N → Picked N head total rank q → Least N head total rank q
-    some-open le (inl picked) = picked
-    some-open le (inr none) = absurd (let e = none-open N rank none in let g = s .count in omega arith)
+      -- while stops are left, the one that is picked is open
+      pub some-open : {q : ℕ} → i ≤ N → Picked N mask total q → Least N head total rank q
+      some-open {q} le (inl near) = go (ℕ-discrete (rank q) 272)
+        where
+          go : Dec (rank q ≡ 272) → Least N head total rank q
+          go (yes o) = record {
+            below = near .below;
+            unsettled = o;
+            least = λ p lt free.
+                rw (← m .unsettled p lt free, ← m .unsettled q (near .below) o) (near .least p lt);
+          }
+          go (no n) = absurd (let e = m .settled q (near .below) n in let l = near .near in omega arith)
+      some-open le (inr far) = absurd (let e = none-open N rank none in let g = s .count in omega arith)
+        where
+          none : (p : ℕ) → p < N → rank p ≡ 272 → ⊥
+          none p lt o =
+              let e = m .unsettled p lt o in
+              let l = far p lt in
+              let h = s .high p (omega arith) in
+              let g = ready .high p lt in
+              omega arith
 
     -- ---- the row of a settled stop
 
-    module _ {q : ℕ} {total' parent' rank' : ℕ → ℕ} (round : i ≤ N) (picked : Least N head total rank q) (ranked : Ranked q i rank rank')
+    module _ {q : ℕ} {total' parent' rank' : ℕ → ℕ} (round : i ≤ N) (picked : Least N head total rank q) (ranked : Given q i rank rank')
         (row : Relaxed (reach k N (f q)) (total q - c q (f q)) q (λ p. c p (f q)) total parent total' parent') where
       -- what became of p
       abbrev Way : ℕ → Type 0

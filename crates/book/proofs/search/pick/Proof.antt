@@ -1,4 +1,4 @@
--- `book::search::pick` meets its contract: the loop keeps the least key of the open stops below p, and whose it is.
+-- `book::search::pick` meets its contract: the loop keeps the least key of the stops below p, and whose it is.
 -- Assumes nothing.
 use Prim.Native.Nat.{ℕ, _+_, _-_, _<_, _≤_}
 use mathlib.Core.Logic.{_⊎_, inl, inr, ⊎-elim}
@@ -6,74 +6,71 @@ use mathlib.Core.Path.{_≡_, refl}
 use borrow.Author.Needs.{needs}
 use native.Mathlib.Decide.{ℕ-discrete}
 use native.Mathlib.Omega.{arith}
-use Rattle.book.specs.Search.{at, Picked, Low}
+use Rattle.book.specs.Search.{at, Picked}
 use Rattle.book.proofs.search.pick.Statement.{statement}
 use Rattle.book.proofs.search.pick.Tie as tie
 
--- `best` is an open stop below p with the key `least`
-record Best (head total rank : ℕ → ℕ) (best least p : ℕ) : Type 0 where
+-- `best` is a stop below p with the key `least`, which is below 2^63
+record Best (head total : ℕ → ℕ) (best least p : ℕ) : Type 0 where
   below : best < p
-  unsettled : rank best ≡ 272
+  near : least < 9223372036854775808
   key : least ≡ total best + head best
 
-module _ (new : ℕ) (head total rank : ℕ → ℕ) where
+module _ (new : ℕ) (head total : ℕ → ℕ) where
   record Picking (best least p : ℕ) : Type 0 where
     most : p ≤ new
-    found : Best head total rank best least p ⊎ (least ≡ 9223372036854775808)
-    lower : (v : ℕ) → v < p → rank v ≡ 272 → least ≤ total v + head v
+    found : Best head total best least p ⊎ (least ≡ 9223372036854775808)
+    lower : (v : ℕ) → v < p → least ≤ total v + head v
 
   pick-begun : Picking new 9223372036854775808 0
-  pick-begun = record { most = omega arith; found = inr refl; lower = λ v lt o. absurd (omega arith) }
+  pick-begun = record { most = omega arith; found = inr refl; lower = λ v lt. absurd (omega arith) }
 
   module _ {best least p : ℕ} (s : Picking best least p) (lt : p < new) where
-    later : Best head total rank best least p ⊎ (least ≡ 9223372036854775808) → Best head total rank best least (p + 1) ⊎ (least ≡ 9223372036854775808)
-    later (inl h) = inl (record { below = let l = h .below in omega arith; unsettled = h .unsettled; key = h .key })
+    later : Best head total best least p ⊎ (least ≡ 9223372036854775808) → Best head total best least (p + 1) ⊎ (least ≡ 9223372036854775808)
+    later (inl h) = inl (record { below = let l = h .below in omega arith; near = h .near; key = h .key })
     later (inr e) = inr e
 
-    -- p is settled, or its key is no less
-    pick-kept : (rank p ≡ 272 → least ≤ total p + head p) → Picking best least (p + 1)
-    pick-kept no-less = record { most = omega arith; found = later (s .found); lower = λ v l o. go v l o (ℕ-discrete v p) }
+    pick-kept : least ≤ total p + head p → Picking best least (p + 1)
+    pick-kept no-less = record { most = omega arith; found = later (s .found); lower = λ v l. go v l (ℕ-discrete v p) }
       where
-        go : (v : ℕ) → v < p + 1 → rank v ≡ 272 → Dec (v ≡ p) → least ≤ total v + head v
-        go v l o (yes e) = rw e (no-less (rw e at o))
-        go v l o (no m) = s .lower v (omega arith) o
+        go : (v : ℕ) → v < p + 1 → Dec (v ≡ p) → least ≤ total v + head v
+        go v l (yes e) = rw e no-less
+        go v l (no m) = s .lower v (omega arith)
 
-    pick-taken : rank p ≡ 272 → total p + head p < least → Picking p (total p + head p) (p + 1)
-    pick-taken o less = record {
+    near : Best head total best least p ⊎ (least ≡ 9223372036854775808) → least ≤ 9223372036854775808
+    near (inl h) = let l = h .near in omega arith
+    near (inr e) = omega arith
+
+    pick-taken : total p + head p < least → Picking p (total p + head p) (p + 1)
+    pick-taken less = record {
       most = omega arith;
-      found = inl (record { below = omega arith; unsettled = o; key = refl });
-      lower = λ v l q. go v l q (ℕ-discrete v p);
+      found = inl (record { below = omega arith; near = let l = near (s .found) in omega arith; key = refl });
+      lower = λ v l. go v l (ℕ-discrete v p);
     }
       where
-        go : (v : ℕ) → v < p + 1 → rank v ≡ 272 → Dec (v ≡ p) → total p + head p ≤ total v + head v
-        go v l q (yes e) = rw e (omega arith)
-        go v l q (no m) = let h = s .lower v (omega arith) q in omega arith
+        go : (v : ℕ) → v < p + 1 → Dec (v ≡ p) → total p + head p ≤ total v + head v
+        go v l (yes e) = rw e (omega arith)
+        go v l (no m) = let h = s .lower v (omega arith) in omega arith
 
-  pick-ended : {best least p : ℕ} → Picking best least p → Low new head total → new ≤ p → Picked new head total rank best
-  pick-ended {best} {least} {p} s low le = go (s .found)
+  pick-ended : {best least p : ℕ} → Picking best least p → new ≤ p → Picked new head total best
+  pick-ended {best} {least} {p} s le = go (s .found)
     where
-      go : Best head total rank best least p ⊎ (least ≡ 9223372036854775808) → Picked new head total rank best
+      go : Best head total best least p ⊎ (least ≡ 9223372036854775808) → Picked new head total best
       go (inl h) = inl (record {
         below = let l = h .below in let m = s .most in omega arith;
-        unsettled = h .unsettled;
-        least = λ v lt o. let l = s .lower v (omega arith) o in let e = h .key in omega arith;
+        near = let l = h .near in let e = h .key in omega arith;
+        least = λ v lt. let l = s .lower v (omega arith) in let e = h .key in omega arith;
       })
-      go (inr e) = inr (λ v lt o. let l = s .lower v (omega arith) o in let m = low .low v lt in omega arith)
+      go (inr e) = inr (λ v lt. let l = s .lower v (omega arith) in omega arith)
 
 abbrev Inv-loop : tie.InvT-loop
-Inv-loop new heads totals ranks best₀ least₀ p₀ best least p = Picking new (at heads) (at totals) (at ranks) best least p
+Inv-loop new heads totals best₀ least₀ p₀ best least p = Picking new (at heads) (at totals) best least p
 
 abbrev μ-loop : tie.MeasureT-loop
-μ-loop new heads totals ranks best₀ least₀ p₀ best least p = new - p
+μ-loop new heads totals best₀ least₀ p₀ best least p = new - p
 
 loop-holds : tie.Need-loop-holds Inv-loop μ-loop
-loop-holds c = pick-begun _ _ _ _
-
-mul-if1 : tie.Need-mul-if1 Inv-loop μ-loop
-mul-if1 c = search needs
-
-shared-slice-read-if1 : tie.Need-shared-slice-read-if1 Inv-loop μ-loop
-shared-slice-read-if1 c = search needs
+loop-holds c = pick-begun _ _ _
 
 mul-key : tie.Need-mul-key Inv-loop μ-loop
 mul-key c = search needs
@@ -89,8 +86,8 @@ shared-slice-read-key-2 c = search needs
 
 add-key : tie.Need-add-key Inv-loop μ-loop
 add-key c =
-    let i = c .before .before .before .before in
-    omega (arith, i .before .before .pre .1 .1 .1 .low (i .before .loop .p) (i .loop-test .taken))
+    let i = c .before .before in
+    omega (arith, i .before .before .pre .1 .1 .fits (i .before .loop .p) (i .loop-test .taken))
 
 add-p : tie.Need-add-p Inv-loop μ-loop
 add-p c = search needs
@@ -100,15 +97,13 @@ loop-less c = search needs
 
 loop-again : tie.Need-loop-again Inv-loop μ-loop
 loop-again c =
-    let l = c .before .before .before in
-    let lt = c .before .before .loop-test .taken in
-    ⊎-elim (λ w. rw (w .4, w .5) (pick-taken _ _ _ _ (l .loop .inv) lt (w .0 .taken) (w .3 .taken)))
-    (⊎-elim (λ w. rw (w .4, w .5) (pick-kept _ _ _ _ (l .loop .inv) lt (λ o. w .3 .left)))
-    (λ w. rw (w .1, w .2) (pick-kept _ _ _ _ (l .loop .inv) lt (λ o. absurd (w .0 .left o)))))
-    (c .if1 .came)
+    let l = c .before .before .before .before in
+    let lt = c .before .before .before .loop-test .taken in
+    ⊎-elim (λ w. rw (w .1, w .2) (pick-taken _ _ _ (l .loop .inv) lt (w .0 .taken)))
+    (λ w. rw (w .1, w .2) (pick-kept _ _ _ (l .loop .inv) lt (w .0 .left))) (c .if1 .came)
 
 returns : tie.Need-returns Inv-loop μ-loop
-returns c = pick-ended _ _ _ _ (c .before .loop .inv) (c .before .before .pre .1 .1 .1) (c .loop-test .left)
+returns c = pick-ended _ _ _ (c .before .loop .inv) (c .loop-test .left)
 
 pub pick-spec : {M : Type 1} → statement M
 pick-spec =
@@ -117,8 +112,6 @@ pick-spec =
     Inv-loop
     μ-loop
     loop-holds
-    mul-if1
-    shared-slice-read-if1
     mul-key
     shared-slice-read-key
     mul-key-2

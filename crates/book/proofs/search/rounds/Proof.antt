@@ -9,38 +9,47 @@ use lib.Seq.{getD-set-same, getD-set-other}
 use native.Mathlib.Omega.{arith}
 use Rattle.book.specs.Book.{follower}
 use Rattle.book.specs.Legs.{legAt}
-use Rattle.book.specs.Search.{at, Least}
-use Rattle.book.proofs.search.Laws.{Ranked, Settling, search-begun, search-turned, search-ended, some-open, leg-within, keys-low}
+use Rattle.book.specs.Search.{at}
+use Rattle.book.proofs.search.Laws.{Given, Masked, Least, Settling, mask-begun, mask-turned, search-begun, search-turned, search-ended, some-open, leg-within, keys-fit}
 use Rattle.book.proofs.search.rounds.Statement.{statement}
 use Rattle.book.proofs.search.rounds.Tie as tie
 
 -- the invariant, of lists that keep their lengths
-record Rounding (k N : ℕ) (plan heads costs totals₀ parents₀ ranks₀ totals parents ranks : List ℕ) (i : ℕ) : Type 0 where
+record Rounding (k N : ℕ) (plan costs heads₀ totals₀ parents₀ ranks₀ heads totals parents ranks : List ℕ) (i : ℕ) : Type 0 where
+  headed : length heads ≡ length heads₀
   totalled : length totals ≡ length totals₀
   parented : length parents ≡ length parents₀
   ranked : length ranks ≡ length ranks₀
-  settling : Settling k N (follower plan) (legAt costs) (at heads) i (at totals) (at parents) (at ranks)
+  settling : Settling k N (follower plan) (legAt costs) (at heads₀) i (at totals) (at parents) (at ranks)
+  masked : Masked N (at heads₀) (at ranks) (at heads)
 
-set-ranked : (ranks : List ℕ) (q i : ℕ) → q < length ranks → Ranked q i (at ranks) (at (set ranks q i))
-set-ranked ranks q i lt = record { here = getD-set-same ranks q i 0 lt; others = λ p ne. getD-set-other ranks q p i 0 ne }
+set-given : (xs : List ℕ) (q v : ℕ) → q < length xs → Given q v (at xs) (at (set xs q v))
+set-given xs q v lt = record { here = getD-set-same xs q v 0 lt; others = λ p ne. getD-set-other xs q p v 0 ne }
 
 abbrev Inv-loop : tie.InvT-loop
-Inv-loop cranes new plan heads costs totals₀ parents₀ ranks₀ rank₀ totals parents ranks rank =
-    Rounding cranes new plan heads costs totals₀ parents₀ ranks₀ totals parents ranks rank
+Inv-loop cranes new plan costs heads₀ totals₀ parents₀ ranks₀ rank₀ heads totals parents ranks rank =
+    Rounding cranes new plan costs heads₀ totals₀ parents₀ ranks₀ heads totals parents ranks rank
 
 abbrev μ-loop : tie.MeasureT-loop
-μ-loop cranes new plan heads costs totals₀ parents₀ ranks₀ rank₀ totals parents ranks rank = new + 1 - rank
+μ-loop cranes new plan costs heads₀ totals₀ parents₀ ranks₀ rank₀ heads totals parents ranks rank = new + 1 - rank
 
 loop-holds : tie.Need-loop-holds Inv-loop μ-loop
 loop-holds c =
     let a = c .before .before .before .before .before .before in
-    record { totalled = refl; parented = refl; ranked = refl; settling = search-begun (a .pre .1 .1 .0) (a .pre .1 .1 .1) }
+    record {
+      headed = refl;
+      totalled = refl;
+      parented = refl;
+      ranked = refl;
+      settling = search-begun (a .pre .1 .1 .0) (a .pre .1 .1 .1);
+      masked = mask-begun (a .pre .1 .1 .1 .unsettled);
+    }
 
 pick-requires : tie.Need-pick-requires Inv-loop μ-loop
 pick-requires c κs =
     let l = c .before .before .before in
     let a = l .before .before .before .before .before .before .before in
-    (a .pre .0, (omega arith, (omega arith, keys-low (a .pre .1 .1 .0) (l .loop .inv .settling))))
+    (omega arith, (omega arith, keys-fit (a .pre .1 .1 .0) (l .loop .inv .settling) (l .loop .inv .masked)))
 
 -- the stop that is picked
 picked : (c : tie.After-pick Inv-loop μ-loop) → let l = c .before .before .before .before in
@@ -49,7 +58,13 @@ picked : (c : tie.After-pick Inv-loop μ-loop) → let l = c .before .before .be
 picked c =
     let l = c .before .before .before .before in
     let a = l .before .before .before .before .before .before .before in
-    some-open (a .pre .1 .1 .0) (l .loop .inv .settling) (c .before .before .before .loop-test .taken) (c .pick .ensures)
+    some-open (a .pre .1 .1 .0) (l .loop .inv .settling) (l .loop .inv .masked) (c .before .before .before .loop-test .taken) (c .pick .ensures)
+
+mul-heads : tie.Need-mul-heads Inv-loop μ-loop
+mul-heads c = omega (arith, picked c)
+
+slice-write-heads : tie.Need-slice-write-heads Inv-loop μ-loop
+slice-write-heads c = omega (arith, picked c)
 
 mul-ranks : tie.Need-mul-ranks Inv-loop μ-loop
 mul-ranks c = omega (arith, picked c)
@@ -79,13 +94,18 @@ loop-again c =
     let m = c .before .before .before .before .before .before .before in
     let l = m .before .before .before .before in
     let a = l .before .before .before .before .before .before .before in
+    let round = m .before .before .before .loop-test .taken in
+    let most = a .pre .1 .1 .0 .most in
+    let ranked = set-given (l .loop .ranks) (m .pick .result) (l .loop .rank) (slice-write-ranks m) in
+    let far = set-given (l .loop .heads) (m .pick .result) 9223372036854775808 (slice-write-heads m) in
     record {
+      headed = search needs;
       totalled = search needs;
       parented = search needs;
       ranked = search needs;
       settling =
-          search-turned (a .pre .1 .1 .0) (l .loop .inv .settling) (m .before .before .before .loop-test .taken) (picked m)
-          (set-ranked (l .loop .ranks) (m .pick .result) (l .loop .rank) (slice-write-ranks m)) (c .before .before .before .before .settle .ensures);
+          search-turned (a .pre .1 .1 .0) (l .loop .inv .settling) round (picked m) ranked (c .before .before .before .before .settle .ensures);
+      masked = mask-turned (l .loop .inv .masked) (omega arith) ranked far;
     }
 
 same-length : tie.Need-same-length Inv-loop μ-loop
@@ -96,6 +116,9 @@ same-length-2 c = search needs
 
 same-length-3 : tie.Need-same-length-3 Inv-loop μ-loop
 same-length-3 c = search needs
+
+same-length-4 : tie.Need-same-length-4 Inv-loop μ-loop
+same-length-4 c = search needs
 
 returns : tie.Need-returns Inv-loop μ-loop
 returns c =
@@ -111,6 +134,8 @@ rounds-spec =
     μ-loop
     loop-holds
     pick-requires
+    mul-heads
+    slice-write-heads
     mul-ranks
     slice-write-ranks
     settle-requires
@@ -120,4 +145,5 @@ rounds-spec =
     same-length
     same-length-2
     same-length-3
+    same-length-4
     returns)

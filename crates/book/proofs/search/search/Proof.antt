@@ -123,7 +123,7 @@ same-length-3 : tie.Need-same-length-3
 same-length-3 c = search needs
 
 returns : tie.Need-returns
-returns c = c .before .before .before .before .before .before .rounds .ensures
+returns c = c .before .before .before .before .before .before .before .rounds .ensures
 
 pub search-spec : {M : Type 1} → statement M
 search-spec =

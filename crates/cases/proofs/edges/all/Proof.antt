@@ -17,23 +17,17 @@ none-requires c κs = search needs
 loop-holds : tie.Need-loop-holds Inv-loop μ-loop
 loop-holds c = search needs
 
-mul-told : tie.Need-mul-told Inv-loop μ-loop
-mul-told c = search needs
+mul-row : tie.Need-mul-row Inv-loop μ-loop
+mul-row c = search needs
 
-array-copy-out-told : tie.Need-array-copy-out-told Inv-loop μ-loop
-array-copy-out-told c = search needs
+array-copy-out-row : tie.Need-array-copy-out-row Inv-loop μ-loop
+array-copy-out-row c = search needs
 
 told-requires : tie.Need-told-requires Inv-loop μ-loop
 told-requires c κs = search needs
 
 add-requires : tie.Need-add-requires Inv-loop μ-loop
 add-requires c κs = search needs
-
-mul-found : tie.Need-mul-found Inv-loop μ-loop
-mul-found c = search needs
-
-array-copy-out-found : tie.Need-array-copy-out-found Inv-loop μ-loop
-array-copy-out-found c = search needs
 
 found-requires : tie.Need-found-requires Inv-loop μ-loop
 found-requires c κs = search needs
@@ -61,12 +55,10 @@ all-spec =
     μ-loop
     none-requires
     loop-holds
-    mul-told
-    array-copy-out-told
+    mul-row
+    array-copy-out-row
     told-requires
     add-requires
-    mul-found
-    array-copy-out-found
     found-requires
     add-requires-2
     add-i
