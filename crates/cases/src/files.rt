@@ -7,31 +7,35 @@ const RECORDS: usize = 22;
 
 // Records by their numbers: the kind, the first place, the second place and the metres.
 const RECORD: [[u32; 4]; RECORDS] = [
+    // NONE; cranes at a place: K0, K1, K2, K256.
     [0, 0, 0, 0],
     [2, 0, 0, 0],
     [2, 1, 0, 0],
     [2, 2, 0, 0],
     [2, 256, 0, 0],
+    // Calls at a place: R0, R1, R2; another kind: ODD.
     [3, 0, 0, 0],
     [3, 1, 0, 0],
     [3, 2, 0, 0],
     [4, 0, 0, 0],
+    // The leg (0,1) of 10 metres, of 0, of 1, of the most and of one more: A, A0, A1, AMOST, AOVER.
     [1, 0, 1, 10],
     [1, 0, 1, 0],
     [1, 0, 1, 1],
     [1, 0, 1, 1_000_000],
     [1, 0, 1, 1_000_001],
+    // The leg (0,2): B20, B25, B26; the leg (1,2): C, C0.
     [1, 0, 2, 20],
     [1, 0, 2, 25],
     [1, 0, 2, 26],
     [1, 1, 2, 15],
     [1, 1, 2, 0],
+    // A leg the other way, BACK; one to a place above 63, FAR; (0,2) of more than the most, BOVER.
     [1, 1, 0, 10],
     [1, 0, 64, 10],
     [1, 0, 2, 4_294_967_295],
 ];
 
-// No record; cranes and calls at a place; another kind.
 const NONE: u32 = 0;
 
 const K0: u32 = 1;
@@ -50,7 +54,6 @@ const R2: u32 = 7;
 
 const ODD: u32 = 8;
 
-// The legs (0,1), (0,2) and (1,2) with their metres, and legs that stand nowhere.
 const A: u32 = 9;
 
 const A0: u32 = 10;
