@@ -40,19 +40,16 @@ pub record Begun (N : ℕ) (row total parent rank : ℕ → ℕ) : Type 0 where
   pub unsettled : (p : ℕ) → p < N → rank p ≡ 272
   pub source : rank N ≡ 0
 
--- every key below N is a u64, the key of p being total p + head p
-pub record Fitting (N : ℕ) (head total : ℕ → ℕ) : Type 0 where
-  pub fits : (p : ℕ) → p < N → total p + head p < 18446744073709551616
+-- every stop of a list has a head and a total, and its key, their sum, is below 2^63, from which the least is sought
+pub record Keyed (stops heads totals : List ℕ) : Type 0 where
+  pub headed : (i : ℕ) → i < length stops → at stops i < length heads
+  pub totalled : (i : ℕ) → i < length stops → at stops i < length totals
+  pub low : (i : ℕ) → i < length stops → at totals (at stops i) + at heads (at stops i) < 9223372036854775808
 
--- q is a stop of least key below N, and that is below 2^63
-pub record Nearest (N : ℕ) (head total : ℕ → ℕ) (q : ℕ) : Type 0 where
-  pub below : q < N
-  pub near : total q + head q < 9223372036854775808
-  pub least : (p : ℕ) → p < N → total q + head q ≤ total p + head p
-
--- the same, or no key is below 2^63
-abbrev pub Picked : ℕ → (ℕ → ℕ) → (ℕ → ℕ) → ℕ → Type 0
-Picked N head total q = Nearest N head total q ⊎ ((p : ℕ) → p < N → 9223372036854775808 ≤ total p + head p)
+-- of the first n stops of a list, that at i is one of least key
+pub record Nearest (n : ℕ) (stop head total : ℕ → ℕ) (i : ℕ) : Type 0 where
+  pub below : i < n
+  pub least : (j : ℕ) → j < n → total (stop i) + head (stop i) ≤ total (stop j) + head (stop j)
 
 -- the way over the stop `from`, of net cost `net`, is no better for p
 pub record Kept (limit net : ℕ) (row total parent total' parent' : ℕ → ℕ) (p : ℕ) : Type 0 where

@@ -8,7 +8,7 @@ ghost use lib.IntN.{pos, _-ℤ_};
 ghost use lib.ListN.{length};
 ghost use Rattle.book.specs.Book.{follower, weight, weightRule};
 ghost use Rattle.book.specs.Legs.{legAt, Weighed};
-ghost use Rattle.book.specs.Search.{at, netBase, headOf, reach, Begun, Fitting, Picked, Relaxed, Ready, Sized, Witnessed, Searched};
+ghost use Rattle.book.specs.Search.{at, netBase, headOf, reach, Begun, Keyed, Nearest, Relaxed, Ready, Sized, Witnessed, Searched};
 
 // The net cost of the new call, from which the others are counted, so that none is below 0.
 pub(crate) const BASE: u64 = 1_099_511_627_776;
@@ -19,7 +19,7 @@ const LIFT: i64 = 1_099_512_676_352;
 // The rank of a stop that is not settled.
 const OPEN: usize = Book::STOPS;
 
-// Above the key of every open stop; the head of a settled one.
+// Above every key.
 const FAR: u64 = 9_223_372_036_854_775_808;
 
 // The head of a stop: the weight of its follower, raised, less the leg to it.
@@ -58,21 +58,34 @@ fn begin(new: usize, row: &[u32], totals: &mut [u64], parents: &mut [usize], ran
     ranks[new] = 0;
 }
 
-// The stop of least key below `new`, or `new` where no key is below FAR.
-fn pick(new: usize, heads: &[u64], totals: &[u64]) -> usize
-    requires { ⌜ (new ≤ length (now heads)) × ((new ≤ length (now totals)) × Fitting new (at (now heads)) (at (now totals))) ⌝ }
-    ensures { λ r. ⌜ Picked new (at (now (heads .entry))) (at (now (totals .entry))) r ⌝ }
+// The list of open stops: at first all below `new`.
+fn fill_open(new: usize, stops: &mut [u16])
+    requires { ⌜ (new < 272) × (new ≤ length (now stops)) ⌝ }
+    ensures { λ _. ⌜ ((p : ℕ) → p < new → at (now (stops .exit)) p ≡ p) ⌝ }
 {
-    let mut best = new;
-    let mut least = FAR;
     let mut p = 0;
     while p < new {
+        stops[p] = p as u16;
+        p += 1;
+    }
+}
+
+// Where in a list of open stops one of least key stands.
+fn pick(stops: &[u16], heads: &[u64], totals: &[u64]) -> usize
+    requires { ⌜ (0 < length (now stops)) × Keyed (now stops) (now heads) (now totals) ⌝ }
+    ensures { λ r. ⌜ Nearest (length (now (stops .entry))) (at (now (stops .entry))) (at (now (heads .entry))) (at (now (totals .entry))) r ⌝ }
+{
+    let mut best = 0;
+    let mut least = FAR;
+    let mut i = 0;
+    while i < stops.len() {
+        let p = stops[i] as usize;
         let key = totals[p] + heads[p];
         if key < least {
-            best = p;
+            best = i;
             least = key;
         }
-        p += 1;
+        i += 1;
     }
     best
 }
@@ -123,24 +136,27 @@ fn settle(
     relax(&costs[row..end], net, q, totals, parents);
 }
 
-// Settles the stops below `new`, each in its turn the open one of least key. It is not picked again: its head becomes FAR.
+// Settles the stops below `new`, each in its turn the open one of least key; the last one of the list takes its place.
 fn rounds(
     cranes: usize,
     new: usize,
     plan: &[u16],
+    heads: &[u64],
     costs: &[u32],
-    heads: &mut [u64],
+    stops: &mut [u16],
     totals: &mut [u64],
     parents: &mut [usize],
     ranks: &mut [usize],
 )
-    requires { ⌜ (new ≤ length (now heads)) × ((Sized new (now plan) (now costs) (now totals) (now parents) (now ranks)) × ((Ready cranes new (follower (now plan)) (legAt (now costs)) (at (now heads))) × (Begun new (λ p. legAt (now costs) p new) (at (now totals)) (at (now parents)) (at (now ranks))))) ⌝ }
+    requires { ⌜ (new ≤ length (now heads)) × ((new ≤ length (now stops)) × (((p : ℕ) → p < new → at (now stops) p ≡ p) × ((Sized new (now plan) (now costs) (now totals) (now parents) (now ranks)) × ((Ready cranes new (follower (now plan)) (legAt (now costs)) (at (now heads))) × (Begun new (λ p. legAt (now costs) p new) (at (now totals)) (at (now parents)) (at (now ranks))))))) ⌝ }
     ensures { λ _. ⌜ Searched cranes new (follower (now (plan .entry))) (legAt (now (costs .entry))) (at (now (totals .exit))) (at (now (parents .exit))) (at (now (ranks .exit))) ⌝ }
 {
     let mut rank = 1;
     while rank <= new {
-        let q = pick(new, heads, totals);
-        heads[q] = FAR;
+        let left = new - rank;
+        let i = pick(&stops[..left + 1], heads, totals);
+        let q = stops[i] as usize;
+        stops[i] = stops[left];
         ranks[q] = rank;
         settle(cranes, new, plan, costs, q, totals, parents);
         rank += 1;
@@ -164,14 +180,17 @@ pub(crate) fn search(
 {
     let mut heads = [0; Book::STOPS];
     fill_heads(new, plan, weights, costs, &mut heads[..]);
+    let mut stops = [0; Book::STOPS];
+    fill_open(new, &mut stops[..]);
     let row = legs::ROW * new;
     begin(new, &costs[row..row + new + 1], totals, parents, ranks);
     rounds(
         cranes,
         new,
         plan,
+        &heads[..],
         costs,
-        &mut heads[..],
+        &mut stops[..],
         totals,
         parents,
         ranks,

@@ -127,7 +127,7 @@ sum-one (suc n) b g h =
     (eq-or-lt-of-le (le-of-suc-le-suc h))
 
 -- functions that agree below n but at v
-pub sum-but-one : (n v : ℕ) (x z : ℕ → ℕ) → v < n → ((p : ℕ) → p < n → (p ≡ v → ⊥) → x p ≡ z p)
+sum-but-one : (n v : ℕ) (x z : ℕ → ℕ) → v < n → ((p : ℕ) → p < n → (p ≡ v → ⊥) → x p ≡ z p)
     → sumBelow n x + z v ≡ sumBelow n z + x v
 unfolding sumBelow
 sum-but-one zero v x z h same = absurd (not-suc-le-zero h)

@@ -1,16 +1,12 @@
 -- The invariant of the search for net costs: it holds at first, a settled stop's row of work keeps it, and in the end it says
 -- what was searched. Assumes nothing.
-use Prim.Native.Nat.{ℕ, zero, suc, _+_, _-_, _*_, _<_, _≤_}
-use mathlib.Core.Bool.{cond}
+use Prim.Native.Nat.{ℕ, _+_, _-_, _*_, _<_, _≤_}
 use mathlib.Core.Logic.{_⊎_, inl, inr}
-use mathlib.Core.Path.{_≡_, refl, sym, _∙_}
-use borrow.Author.Tests.{lt-ltb, le-ltb, eq-eqb, ne-eqb}
-use lib.Dec.{eqb}
+use mathlib.Core.Path.{_≡_, sym, _∙_}
+use borrow.Author.Tests.{lt-ltb, le-ltb}
 use native.Mathlib.Decide.{ℕ-discrete, decLt}
 use native.Mathlib.Omega.{arith}
-use Rattle.workfunction.specs.Lists.{sumBelow}
-use Rattle.workfunction.proofs.Sums.{sum-at, sum-but-one}
-use Rattle.book.specs.Search.{netBase, reach, Begun, Fitting, Picked, Kept, Bettered, Relaxed, Ready, Searched}
+use Rattle.book.specs.Search.{netBase, reach, Begun, Nearest, Kept, Bettered, Relaxed, Ready, Searched}
 
 -- ---- how far a follower reaches
 
@@ -45,54 +41,99 @@ reach-most k N b le = go (decLt b k)
     go (yes h) = rw (reach-stand k N b h) (omega arith)
     go (no h) = rw (reach-call k N b (omega arith)) le
 
--- ---- the open stops, counted
+-- entry i takes the value x, the others keep theirs
+pub record Stored (i x : ℕ) (old new : ℕ → ℕ) : Type 0 where
+  pub here : new i ≡ x
+  pub others : (j : ℕ) → (j ≡ i → ⊥) → new j ≡ old j
 
--- 1 where a stop is open
-unfoldable pub opened : (ℕ → ℕ) → ℕ → ℕ
-opened rank p = cond (eqb (rank p) 272) 1 0
+-- ---- the list of open stops
 
-all-open : (n : ℕ) (rank : ℕ → ℕ) → ((p : ℕ) → p < n → rank p ≡ 272) → sumBelow n (opened rank) ≡ n
-unfolding sumBelow opened
-all-open zero rank h = refl
-all-open (suc n) rank h = rw (all-open n rank (λ p l. h p (omega arith)), eq-eqb (rank n) 272 (h n (omega arith))) (omega arith)
-
-none-open : (n : ℕ) (rank : ℕ → ℕ) → ((p : ℕ) → p < n → rank p ≡ 272 → ⊥) → sumBelow n (opened rank) ≡ 0
-unfolding sumBelow opened
-none-open zero rank h = refl
-none-open (suc n) rank h = rw (none-open n rank (λ p l. h p (omega arith)), ne-eqb (rank n) 272 (h n (omega arith)))
-
--- stop q takes the value v, the others keep theirs
-pub record Given (q v : ℕ) (old new : ℕ → ℕ) : Type 0 where
-  pub here : new q ≡ v
-  pub others : (p : ℕ) → (p ≡ q → ⊥) → new p ≡ old p
-
--- ---- the heads as they are read: 2^63 at the settled stops
-
-pub record Masked (N : ℕ) (head rank mask : ℕ → ℕ) : Type 0 where
-  pub unsettled : (p : ℕ) → p < N → rank p ≡ 272 → mask p ≡ head p
-  pub settled : (p : ℕ) → p < N → (rank p ≡ 272 → ⊥) → mask p ≡ 9223372036854775808
-
-pub mask-begun : {N : ℕ} {head rank : ℕ → ℕ} → ((p : ℕ) → p < N → rank p ≡ 272) → Masked N head rank head
-mask-begun all = record { unsettled = λ p lt o. refl; settled = λ p lt m. absurd (m (all p lt)) }
-
-module _ {N q i : ℕ} {head rank rank' mask mask' : ℕ → ℕ} (m : Masked N head rank mask) (below : i < 272) (ranked : Given q i rank rank')
-    (far : Given q 9223372036854775808 mask mask') where
-  pub mask-turned : Masked N head rank' mask'
-  mask-turned = record { unsettled = λ p lt o. opens p lt o (ℕ-discrete p q); settled = λ p lt n. closes p lt n (ℕ-discrete p q) }
-    where
-      opens : (p : ℕ) → p < N → rank' p ≡ 272 → Dec (p ≡ q) → mask' p ≡ head p
-      opens p lt o (yes e) = absurd (let h : rank' p ≡ i = rw e (ranked .here) in omega arith)
-      opens p lt o (no n) = far .others p n ∙ m .unsettled p lt (sym (ranked .others p n) ∙ o)
-
-      closes : (p : ℕ) → p < N → (rank' p ≡ 272 → ⊥) → Dec (p ≡ q) → mask' p ≡ 9223372036854775808
-      closes p lt s (yes e) = rw e (far .here)
-      closes p lt s (no n) = far .others p n ∙ m .settled p lt (λ o. s (ranked .others p n ∙ o))
-
--- q is an open stop of least key below N
+-- q is an open stop of least key below N, the key of p being total p + head p
 pub record Least (N : ℕ) (head total rank : ℕ → ℕ) (q : ℕ) : Type 0 where
   pub below : q < N
   pub unsettled : rank q ≡ 272
   pub least : (p : ℕ) → p < N → rank p ≡ 272 → total q + head q ≤ total p + head p
+
+-- the first `left` stops of the list are those below N that are open, each once
+pub record Listed (N left : ℕ) (stop rank : ℕ → ℕ) : Type 0 where
+  pub below : (i : ℕ) → i < left → stop i < N
+  pub unsettled : (i : ℕ) → i < left → rank (stop i) ≡ 272
+  pub every : (p : ℕ) → p < N → rank p ≡ 272 → (i : ℕ) × ((i < left) × (stop i ≡ p))
+  pub once : (i j : ℕ) → i < left → j < left → stop i ≡ stop j → i ≡ j
+
+pub listed-begun : {N left : ℕ} {stop rank : ℕ → ℕ} → left ≡ N → ((p : ℕ) → p < N → stop p ≡ p) → ((p : ℕ) → p < N → rank p ≡ 272)
+    → Listed N left stop rank
+listed-begun all self unsettled = record {
+  below = λ i lt. rw (self i (omega arith)) (omega arith);
+  unsettled = λ i lt. rw (self i (omega arith)) (unsettled i (omega arith));
+  every = λ p lt o. (p, (omega arith, self p lt));
+  once = λ i j lt less e. sym (self i (omega arith)) ∙ e ∙ self j (omega arith);
+}
+
+pub listed-least : {N left i : ℕ} {stop rank head total : ℕ → ℕ} → Listed N left stop rank → Nearest left stop head total i
+    → Least N head total rank (stop i)
+listed-least {N} {left} {i} {stop} {rank} {head} {total} s n = record {
+  below = s .below i (n .below);
+  unsettled = s .unsettled i (n .below);
+  least = λ p lt o. go p (s .every p lt o);
+}
+  where
+    go : (p : ℕ) → (j : ℕ) × ((j < left) × (stop j ≡ p)) → total (stop i) + head (stop i) ≤ total p + head p
+    go p (j, (lt, e)) = rw e at (n .least j lt)
+
+-- the stop at i is settled, and the last takes its place
+module _ {N left left' i r : ℕ} {stop stop' rank rank' : ℕ → ℕ} (s : Listed N left stop rank) (last : left ≡ left' + 1) (lt : i < left)
+    (settled : r < 272) (moved : Stored i (stop left') stop stop') (ranked : Stored (stop i) r rank rank') where
+  -- a stop that is left stood elsewhere than at i
+  stood : (j : ℕ) → j < left' → (l : ℕ) × ((l < left) × ((l ≡ i → ⊥) × (stop' j ≡ stop l)))
+  stood j less = go (ℕ-discrete j i)
+    where
+      go : Dec (j ≡ i) → (l : ℕ) × ((l < left) × ((l ≡ i → ⊥) × (stop' j ≡ stop l)))
+      go (yes e) = (left', (omega arith, ((λ h. omega arith), rw e (moved .here))))
+      go (no m) = (j, (omega arith, (m, moved .others j m)))
+
+  still-below : (j : ℕ) → (l : ℕ) × ((l < left) × ((l ≡ i → ⊥) × (stop' j ≡ stop l))) → stop' j < N
+  still-below j (l, (less, (ne, e))) = rw e (s .below l less)
+
+  still-open : (j : ℕ) → (l : ℕ) × ((l < left) × ((l ≡ i → ⊥) × (stop' j ≡ stop l))) → rank' (stop' j) ≡ 272
+  still-open j (l, (less, (ne, e))) = rw e (ranked .others (stop l) (λ h. ne (s .once l i less lt h)) ∙ s .unsettled l less)
+
+  still-every : (p : ℕ) → p < N → rank' p ≡ 272 → (j : ℕ) × ((j < left') × (stop' j ≡ p))
+  still-every p less o = find (s .every p less (sym (ranked .others p other) ∙ o))
+    where
+      other : p ≡ stop i → ⊥
+      other e = let h : rank' p ≡ r = rw e (ranked .here) in omega arith
+
+      find : (j : ℕ) × ((j < left) × (stop j ≡ p)) → (j : ℕ) × ((j < left') × (stop' j ≡ p))
+      find (j, (h, e)) = go (ℕ-discrete j left')
+        where
+          ne : j ≡ i → ⊥
+          ne same = other (sym e ∙ rw same)
+
+          go : Dec (j ≡ left') → (j : ℕ) × ((j < left') × (stop' j ≡ p))
+          go (yes at-last) = (i, (let n : i ≡ j → ⊥ = λ g. ne (sym g) in omega arith, moved .here ∙ rw (sym at-last) e))
+          go (no m) = (j, (omega arith, moved .others j ne ∙ e))
+
+  still-once : (a b : ℕ) → a < left' → b < left' → stop' a ≡ stop' b → a ≡ b
+  still-once a b l m e = go (ℕ-discrete a i) (ℕ-discrete b i)
+    where
+      go : Dec (a ≡ i) → Dec (b ≡ i) → a ≡ b
+      go (yes x) (yes y) = x ∙ sym y
+      go (yes x) (no y) =
+          let h = s .once left' b (omega arith) (omega arith) (sym (moved .here) ∙ (rw x at e) ∙ moved .others b y) in
+          absurd (omega arith)
+      go (no x) (yes y) =
+          let h = s .once a left' (omega arith) (omega arith) (sym (moved .others a x) ∙ (rw y at e) ∙ moved .here) in
+          absurd (omega arith)
+      go (no x) (no y) = s .once a b (omega arith) (omega arith) (sym (moved .others a x) ∙ e ∙ moved .others b y)
+
+  pub listed-turned : Listed N left' stop' rank'
+  listed-turned = record {
+    below = λ j less. still-below j (stood j less);
+    unsettled = λ j less. still-open j (stood j less);
+    every = still-every;
+    once = still-once;
+  }
 
 -- ---- the invariant: i is the rank of the next stop
 
@@ -118,8 +159,7 @@ pub record Settling (k N : ℕ) (f : ℕ → ℕ) (c : ℕ → ℕ → ℕ) (hea
   pub held : (p : ℕ) → p < N → Held k N f c i total rank p (parent p)
   -- no settled stop has a greater key than an open one
   pub order : (p v : ℕ) → p < N → v < N → rank p < i → rank v ≡ 272 → total p + head p ≤ total v + head v
-  -- the new call, the settled stops and the open ones are all
-  pub count : i + sumBelow N (opened rank) ≡ N + 1
+  pub most : i ≤ N + 1
 
 module _ {k N : ℕ} {f : ℕ → ℕ} {c : ℕ → ℕ → ℕ} {head : ℕ → ℕ} (ready : Ready k N f c head) where
   -- ---- at first
@@ -155,7 +195,7 @@ module _ {k N : ℕ} {f : ℕ → ℕ} {c : ℕ → ℕ → ℕ} {head : ℕ →
       least = λ p q lt le r may. first-least p q lt le r;
       held = λ p lt. rw (b .parents p (omega arith)) (first-held p lt);
       order = λ p v lt l r o. absurd (let e = b .unsettled p lt in omega arith);
-      count = rw (all-open N rank (b .unsettled)) (omega arith);
+      most = omega arith;
     }
 
   -- a leg of the plan is within the limit
@@ -167,51 +207,21 @@ module _ {k N : ℕ} {f : ℕ → ℕ} {c : ℕ → ℕ → ℕ} {head : ℕ →
       go (no h) = let e : p ≡ N = omega arith in rw (e, ready .new) (ready .cost N N (omega arith) (omega arith))
 
   module _ {i : ℕ} {total parent rank : ℕ → ℕ} (s : Settling k N f c head i total parent rank) where
-    pub rounds-most : i ≤ N + 1
-    rounds-most = let e = s .count in omega arith
-
     -- so its net cost can be taken
     pub leg-within : (p : ℕ) → p ≤ N → c p (f p) ≤ total p
     leg-within p le =
         let leg = kept-leg p le in
         let low = s .low p le in
         let most = ready .most in
-        let i-most = rounds-most in
+        let i-most = s .most in
         omega arith
 
-    module _ {mask : ℕ → ℕ} (m : Masked N head rank mask) where
-      pub keys-fit : Fitting N mask total
-      keys-fit = record { fits = λ p lt. go p lt (ℕ-discrete (rank p) 272) }
-        where
-          go : (p : ℕ) → p < N → Dec (rank p ≡ 272) → total p + mask p < 18446744073709551616
-          go p lt (yes o) = let e = m .unsettled p lt o in let h = s .high p (omega arith) in let g = ready .high p lt in omega arith
-          go p lt (no n) = let e = m .settled p lt n in let h = s .high p (omega arith) in omega arith
-
-      -- while stops are left, the one that is picked is open
-      pub some-open : {q : ℕ} → i ≤ N → Picked N mask total q → Least N head total rank q
-      some-open {q} le (inl near) = go (ℕ-discrete (rank q) 272)
-        where
-          go : Dec (rank q ≡ 272) → Least N head total rank q
-          go (yes o) = record {
-            below = near .below;
-            unsettled = o;
-            least = λ p lt free.
-                rw (← m .unsettled p lt free, ← m .unsettled q (near .below) o) (near .least p lt);
-          }
-          go (no n) = absurd (let e = m .settled q (near .below) n in let l = near .near in omega arith)
-      some-open le (inr far) = absurd (let e = none-open N rank none in let g = s .count in omega arith)
-        where
-          none : (p : ℕ) → p < N → rank p ≡ 272 → ⊥
-          none p lt o =
-              let e = m .unsettled p lt o in
-              let l = far p lt in
-              let h = s .high p (omega arith) in
-              let g = ready .high p lt in
-              omega arith
+    pub keys-low : (p : ℕ) → p < N → total p + head p < 9223372036854775808
+    keys-low p lt = let h = s .high p (omega arith) in let g = ready .high p lt in omega arith
 
     -- ---- the row of a settled stop
 
-    module _ {q : ℕ} {total' parent' rank' : ℕ → ℕ} (round : i ≤ N) (picked : Least N head total rank q) (ranked : Given q i rank rank')
+    module _ {q : ℕ} {total' parent' rank' : ℕ → ℕ} (round : i ≤ N) (picked : Least N head total rank q) (ranked : Stored q i rank rank')
         (row : Relaxed (reach k N (f q)) (total q - c q (f q)) q (λ p. c p (f q)) total parent total' parent') where
       -- what became of p
       abbrev Way : ℕ → Type 0
@@ -391,17 +401,6 @@ module _ {k N : ℕ} {f : ℕ → ℕ} {c : ℕ → ℕ → ℕ} {head : ℕ →
               let m = s .order p q lt (picked .below) r (picked .unsettled) in
               omega arith
 
-      new-count : i + 1 + sumBelow N (opened rank') ≡ N + 1
-      unfolding opened
-      new-count =
-          let here : opened rank q ≡ 1 = rw (eq-eqb (rank q) 272 (picked .unsettled)) in
-          let m = below-open in
-          let r = ranked .here in
-          let gone : opened rank' q ≡ 0 = rw (ne-eqb (rank' q) 272 (λ e. omega arith)) in
-          let fewer = sum-but-one N q (opened rank) (opened rank') (picked .below) (λ p lt ne. rw (ranked .others p ne)) in
-          let e = s .count in
-          omega arith
-
       pub search-turned : Settling k N f c head (i + 1) total' parent' rank'
       search-turned = record {
         source = ranked .others N (λ e. let l = picked .below in omega arith) ∙ s .source;
@@ -412,25 +411,18 @@ module _ {k N : ℕ} {f : ℕ → ℕ} {c : ℕ → ℕ → ℕ} {head : ℕ →
         least = λ p q₁ lt le r may. new-least p q₁ lt le may (by-rank q₁ le r);
         held = new-held;
         order = λ p v lt l r o. new-order p v lt l (by-rank p (omega arith) r) o;
-        count = new-count;
+        most = omega arith;
       }
 
   -- ---- in the end
 
-  module _ {i : ℕ} {total parent rank : ℕ → ℕ} (s : Settling k N f c head i total parent rank) (over : N < i) where
+  module _ {i : ℕ} {total parent rank : ℕ → ℕ} (s : Settling k N f c head i total parent rank) (over : N < i)
+      (none : (p : ℕ) → p < N → rank p ≡ 272 → ⊥) where
     all-settled : (p : ℕ) → p ≤ N → rank p < i
-    unfolding opened
     all-settled p le = go (decLt p N)
       where
-        closed : p < N → rank p ≡ 272 → ⊥
-        closed lt o =
-            let e = s .count in
-            let most = sum-at N (opened rank) p lt in
-            let here : opened rank p ≡ 1 = rw (eq-eqb (rank p) 272 o) in
-            omega arith
-
         pick : p < N → (rank p ≡ 272) ⊎ (rank p < i) → rank p < i
-        pick lt (inl o) = absurd (closed lt o)
+        pick lt (inl o) = absurd (none p lt o)
         pick lt (inr r) = r
 
         go : Dec (p < N) → rank p < i
@@ -454,6 +446,6 @@ module _ {k N : ℕ} {f : ℕ → ℕ} {c : ℕ → ℕ → ℕ} {head : ℕ →
             omega arith;
         allowed = λ p lt. s .held p lt .allowed;
         chains = record { first = s .source; below = λ p lt. s .held p lt .below; earlier = λ p lt. s .held p lt .earlier };
-        ranked = λ p le. let r = all-settled p le in let most = rounds-most s in omega arith;
+        ranked = λ p le. let r = all-settled p le in let most = s .most in omega arith;
       };
     }

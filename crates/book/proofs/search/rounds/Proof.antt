@@ -1,83 +1,153 @@
 -- `book::search::rounds` meets its contract: each round settles an open stop of least key, which keeps the invariant.
 -- Assumes nothing.
-use Prim.Native.Nat.{ℕ, _+_, _-_, _<_}
+use Prim.Native.Nat.{ℕ, _+_, _-_, _<_, _≤_}
 use mathlib.Core.List.{List}
-use mathlib.Core.Path.{_≡_, refl}
+use mathlib.Core.Path.{_≡_, refl, sym}
 use borrow.Author.Needs.{needs}
-use lib.ListN.{length, set}
-use lib.Seq.{getD-set-same, getD-set-other}
+use lib.ListN.{length, set, take}
+use lib.Seq.{length-take-le, getD-take, getD-set-same, getD-set-other}
 use native.Mathlib.Omega.{arith}
 use Rattle.book.specs.Book.{follower}
 use Rattle.book.specs.Legs.{legAt}
-use Rattle.book.specs.Search.{at}
-use Rattle.book.proofs.search.Laws.{Given, Masked, Least, Settling, mask-begun, mask-turned, search-begun, search-turned, search-ended, some-open, leg-within, keys-fit}
+use Rattle.book.specs.Search.{at, Keyed, Nearest}
+use Rattle.book.proofs.search.Laws.{Stored, Least, Listed, Settling, listed-begun, listed-least, listed-turned, search-begun, search-turned, search-ended, leg-within, keys-low}
 use Rattle.book.proofs.search.rounds.Statement.{statement}
 use Rattle.book.proofs.search.rounds.Tie as tie
 
 -- the invariant, of lists that keep their lengths
-record Rounding (k N : ℕ) (plan costs heads₀ totals₀ parents₀ ranks₀ heads totals parents ranks : List ℕ) (i : ℕ) : Type 0 where
-  headed : length heads ≡ length heads₀
+record Rounding (k N : ℕ) (plan heads costs stops₀ totals₀ parents₀ ranks₀ stops totals parents ranks : List ℕ) (i : ℕ) : Type 0 where
+  stopped : length stops ≡ length stops₀
   totalled : length totals ≡ length totals₀
   parented : length parents ≡ length parents₀
   ranked : length ranks ≡ length ranks₀
-  settling : Settling k N (follower plan) (legAt costs) (at heads₀) i (at totals) (at parents) (at ranks)
-  masked : Masked N (at heads₀) (at ranks) (at heads)
+  started : 1 ≤ i
+  listed : Listed N (N + 1 - i) (at stops) (at ranks)
+  settling : Settling k N (follower plan) (legAt costs) (at heads) i (at totals) (at parents) (at ranks)
 
-set-given : (xs : List ℕ) (q v : ℕ) → q < length xs → Given q v (at xs) (at (set xs q v))
-set-given xs q v lt = record { here = getD-set-same xs q v 0 lt; others = λ p ne. getD-set-other xs q p v 0 ne }
+set-stored : (l : List ℕ) (i x : ℕ) → i < length l → Stored i x (at l) (at (set l i x))
+set-stored l i x lt = record { here = getD-set-same l i x 0 lt; others = λ j ne. getD-set-other l i j x 0 ne }
+
+-- ---- the stops lent to `pick`: the first n
+
+module _ (stops heads totals : List ℕ) (n left : ℕ) (all : n ≡ left) (fits : n ≤ length stops) where
+  first : length (take n stops) ≡ n
+  first = length-take-le n stops fits
+
+  lent-keyed : ((i : ℕ) → i < left → at stops i < length heads) → ((i : ℕ) → i < left → at stops i < length totals)
+      → ((i : ℕ) → i < left → at totals (at stops i) + at heads (at stops i) < 9223372036854775808) → Keyed (take n stops) heads totals
+  lent-keyed headed totalled low =
+      let long = first in
+      record {
+        headed = λ i lt. rw (getD-take n stops i 0 (omega arith)) (headed i (omega arith));
+        totalled = λ i lt. rw (getD-take n stops i 0 (omega arith)) (totalled i (omega arith));
+        low = λ i lt. rw (getD-take n stops i 0 (omega arith)) (low i (omega arith));
+      }
+
+  lent-nearest : {i : ℕ} → Nearest (length (take n stops)) (at (take n stops)) (at heads) (at totals) i
+      → Nearest left (at stops) (at heads) (at totals) i
+  lent-nearest {i} near =
+      let long = first in
+      let lt = near .below in
+      record {
+        below = omega arith;
+        least = λ j less. rw (getD-take n stops i 0 (omega arith), getD-take n stops j 0 (omega arith)) at (near .least j (omega arith));
+      }
 
 abbrev Inv-loop : tie.InvT-loop
-Inv-loop cranes new plan costs heads₀ totals₀ parents₀ ranks₀ rank₀ heads totals parents ranks rank =
-    Rounding cranes new plan costs heads₀ totals₀ parents₀ ranks₀ heads totals parents ranks rank
+Inv-loop cranes new plan heads costs stops₀ totals₀ parents₀ ranks₀ rank₀ stops totals parents ranks rank =
+    Rounding cranes new plan heads costs stops₀ totals₀ parents₀ ranks₀ stops totals parents ranks rank
 
 abbrev μ-loop : tie.MeasureT-loop
-μ-loop cranes new plan costs heads₀ totals₀ parents₀ ranks₀ rank₀ heads totals parents ranks rank = new + 1 - rank
+μ-loop cranes new plan heads costs stops₀ totals₀ parents₀ ranks₀ rank₀ stops totals parents ranks rank = new + 1 - rank
 
 loop-holds : tie.Need-loop-holds Inv-loop μ-loop
 loop-holds c =
-    let a = c .before .before .before .before .before .before in
+    let a = c .before .before .before .before .before .before .before in
     record {
-      headed = refl;
+      stopped = refl;
       totalled = refl;
       parented = refl;
       ranked = refl;
-      settling = search-begun (a .pre .1 .1 .0) (a .pre .1 .1 .1);
-      masked = mask-begun (a .pre .1 .1 .1 .unsettled);
+      started = omega arith;
+      listed = listed-begun (omega arith) (a .pre .1 .1 .0) (a .pre .1 .1 .1 .1 .1 .unsettled);
+      settling = search-begun (a .pre .1 .1 .1 .1 .0) (a .pre .1 .1 .1 .1 .1);
     }
+
+add-pick : tie.Need-add-pick Inv-loop μ-loop
+add-pick c = search needs
+
+slice-reshare-prefix-pick : tie.Need-slice-reshare-prefix-pick Inv-loop μ-loop
+slice-reshare-prefix-pick c = omega arith
+
+slice-aggregate-pick : tie.Need-slice-aggregate-pick Inv-loop μ-loop
+slice-aggregate-pick c = sym (length-take-le _ _ (slice-reshare-prefix-pick (c .before)))
 
 pick-requires : tie.Need-pick-requires Inv-loop μ-loop
 pick-requires c κs =
-    let l = c .before .before .before in
-    let a = l .before .before .before .before .before .before .before in
-    (omega arith, (omega arith, keys-fit (a .pre .1 .1 .0) (l .loop .inv .settling) (l .loop .inv .masked)))
+    let i = c .before .before in
+    let l = i .before in
+    let a = l .before .before .before .before .before .before .before .before in
+    let s = l .loop .inv in
+    let n = a .args .new - l .loop .rank + 1 in
+    let fits = slice-reshare-prefix-pick i in
+    let long = length-take-le n (l .loop .stops) fits in (
+      omega arith,
+      lent-keyed (l .loop .stops) (a .args .heads .now) (l .loop .totals) n (a .args .new + 1 - l .loop .rank) (omega arith) fits
+          (λ j lt. let b = s .listed .below j lt in omega arith)
+          (λ j lt. let b = s .listed .below j lt in omega arith)
+          (λ j lt. keys-low (a .pre .1 .1 .1 .1 .0) (s .settling) _ (s .listed .below j lt)),
+    )
+
+-- where the stop that is picked stands
+near : (c : tie.After-pick Inv-loop μ-loop) → let l = c .before .before .before .before in
+    let a = l .before .before .before .before .before .before .before .before .args in
+    Nearest (a .new + 1 - l .loop .rank) (at (l .loop .stops)) (at (a .heads .now)) (at (l .loop .totals)) (c .pick .result)
+near c =
+    let i = c .before .before .before in
+    let l = i .before in
+    let a = l .before .before .before .before .before .before .before .before .args in
+    lent-nearest (l .loop .stops) (a .heads .now) (l .loop .totals) (a .new - l .loop .rank + 1) (a .new + 1 - l .loop .rank) (omega arith)
+    (slice-reshare-prefix-pick i) (c .pick .ensures)
 
 -- the stop that is picked
 picked : (c : tie.After-pick Inv-loop μ-loop) → let l = c .before .before .before .before in
-    let a = l .before .before .before .before .before .before .before .args in
-    Least (a .new) (at (a .heads .now)) (at (l .loop .totals)) (at (l .loop .ranks)) (c .pick .result)
-picked c =
-    let l = c .before .before .before .before in
-    let a = l .before .before .before .before .before .before .before in
-    some-open (a .pre .1 .1 .0) (l .loop .inv .settling) (l .loop .inv .masked) (c .before .before .before .loop-test .taken) (c .pick .ensures)
+    let a = l .before .before .before .before .before .before .before .before .args in
+    Least (a .new) (at (a .heads .now)) (at (l .loop .totals)) (at (l .loop .ranks)) (at (l .loop .stops) (c .pick .result))
+picked c = listed-least (c .before .before .before .before .loop .inv .listed) (near c)
 
-mul-heads : tie.Need-mul-heads Inv-loop μ-loop
-mul-heads c = omega (arith, picked c)
+mul-q : tie.Need-mul-q Inv-loop μ-loop
+mul-q c = omega (arith, near c)
 
-slice-write-heads : tie.Need-slice-write-heads Inv-loop μ-loop
-slice-write-heads c = omega (arith, picked c)
+slice-read-q : tie.Need-slice-read-q Inv-loop μ-loop
+slice-read-q c = omega (arith, near (c .before))
+
+cast-q : tie.Need-cast-q Inv-loop μ-loop
+cast-q c = omega (arith, picked (c .before))
+
+mul-stops : tie.Need-mul-stops Inv-loop μ-loop
+mul-stops c = search needs
+
+slice-read-stops : tie.Need-slice-read-stops Inv-loop μ-loop
+slice-read-stops c = omega arith
+
+mul-stops-2 : tie.Need-mul-stops-2 Inv-loop μ-loop
+mul-stops-2 c = omega (arith, near (c .before .before))
+
+slice-write-stops : tie.Need-slice-write-stops Inv-loop μ-loop
+slice-write-stops c = omega (arith, near (c .before .before))
 
 mul-ranks : tie.Need-mul-ranks Inv-loop μ-loop
-mul-ranks c = omega (arith, picked c)
+mul-ranks c = omega (arith, picked (c .before .before))
 
 slice-write-ranks : tie.Need-slice-write-ranks Inv-loop μ-loop
-slice-write-ranks c = omega (arith, picked c)
+slice-write-ranks c = omega (arith, picked (c .before .before))
 
 settle-requires : tie.Need-settle-requires Inv-loop μ-loop
 settle-requires c κs =
-    let m = c .before .before in
+    let m = c .before .before .before .before in
     let l = m .before .before .before .before in
-    let a = l .before .before .before .before .before .before .before in
-    let ready = a .pre .1 .1 .0 in
+    let a = l .before .before .before .before .before .before .before .before in
+    let ready = a .pre .1 .1 .1 .1 .0 in
     let now = l .loop .inv .settling in
     let most = ready .most in
     let lt = picked m .below in
@@ -91,21 +161,25 @@ loop-less c = search needs
 
 loop-again : tie.Need-loop-again Inv-loop μ-loop
 loop-again c =
-    let m = c .before .before .before .before .before .before .before in
+    let w = c .before .before .before .before .before .before .before in
+    let m = w .before .before in
     let l = m .before .before .before .before in
-    let a = l .before .before .before .before .before .before .before in
-    let round = m .before .before .before .loop-test .taken in
-    let most = a .pre .1 .1 .0 .most in
-    let ranked = set-given (l .loop .ranks) (m .pick .result) (l .loop .rank) (slice-write-ranks m) in
-    let far = set-given (l .loop .heads) (m .pick .result) 9223372036854775808 (slice-write-heads m) in
+    let a = l .before .before .before .before .before .before .before .before in
+    let ready = a .pre .1 .1 .1 .1 .0 in
+    let s = l .loop .inv in
+    let most = ready .most in
+    let left = a .args .new - l .loop .rank in
+    let moved = set-stored (l .loop .stops) (m .pick .result) (at (l .loop .stops) left) (slice-write-stops w) in
+    let fewer : a .args .new + 1 - (l .loop .rank + 1) ≡ left = omega arith in
+    let stored = set-stored (l .loop .ranks) (at (l .loop .stops) (m .pick .result)) (l .loop .rank) (slice-write-ranks w) in
     record {
-      headed = search needs;
+      stopped = search needs;
       totalled = search needs;
       parented = search needs;
       ranked = search needs;
-      settling =
-          search-turned (a .pre .1 .1 .0) (l .loop .inv .settling) round (picked m) ranked (c .before .before .before .before .settle .ensures);
-      masked = mask-turned (l .loop .inv .masked) (omega arith) ranked far;
+      started = omega arith;
+      listed = rw fewer (listed-turned (s .listed) (omega arith) (near m .below) (omega arith) moved stored);
+      settling = search-turned ready (s .settling) (m .before .before .before .loop-test .taken) (picked m) stored (c .before .before .before .before .settle .ensures);
     }
 
 same-length : tie.Need-same-length Inv-loop μ-loop
@@ -123,8 +197,9 @@ same-length-4 c = search needs
 returns : tie.Need-returns Inv-loop μ-loop
 returns c =
     let l = c .before in
-    let a = l .before .before .before .before .before .before .before in
-    search-ended (a .pre .1 .1 .0) (l .loop .inv .settling) (c .loop-test .left)
+    let a = l .before .before .before .before .before .before .before .before in
+    search-ended (a .pre .1 .1 .1 .1 .0) (l .loop .inv .settling) (c .loop-test .left)
+    (λ p lt o. let h = l .loop .inv .listed .every p lt o .1 .0 in absurd (omega arith))
 
 pub rounds-spec : {M : Type 1} → statement M
 rounds-spec =
@@ -133,9 +208,17 @@ rounds-spec =
     Inv-loop
     μ-loop
     loop-holds
+    add-pick
+    slice-reshare-prefix-pick
+    slice-aggregate-pick
     pick-requires
-    mul-heads
-    slice-write-heads
+    mul-q
+    slice-read-q
+    cast-q
+    mul-stops
+    slice-read-stops
+    mul-stops-2
+    slice-write-stops
     mul-ranks
     slice-write-ranks
     settle-requires

@@ -13,7 +13,7 @@ use Rattle.book.specs.Book.{follower, weight}
 use Rattle.book.specs.Legs.{legAt, Weighed}
 use Rattle.book.specs.Search.{at, headOf, Begun, Ready, Sized, Witnessed}
 use Rattle.book.proofs.search.Heads.{head-high, heads-vouch}
-use Rattle.book.proofs.search.Lent.{lent, length-lent, lent-at}
+use Rattle.book.proofs.search.Lent.{lent, lent-at}
 use Rattle.book.proofs.search.search.Statement.{statement}
 use Rattle.book.proofs.search.search.Tie as tie
 
@@ -63,6 +63,12 @@ fill-heads-requires c κs =
     let p = c .before .before .before .before .before .before .pre in
     (le-of-lt (p .1 .1 .few), (in-range (p .1 .1) (p .1 .0), leg (p .1 .1)))
 
+slice-aggregate-fill-open : tie.Need-slice-aggregate-fill-open
+slice-aggregate-fill-open c = search needs
+
+fill-open-requires : tie.Need-fill-open-requires
+fill-open-requires c κs = search needs
+
 mul-row : tie.Need-mul-row
 mul-row c = search needs
 
@@ -85,30 +91,34 @@ part-begin-end : tie.Need-part-begin-end
 part-begin-end c = search needs
 
 begin-requires : tie.Need-begin-requires
-begin-requires c κs =
-    let a = c .before .before .before .before .before .before .before .before .before .before .before .before in
-    let s = a .pre .1 .0 in
-    let few = a .pre .1 .1 .few in
-    let n = a .args .new in
-    let long = length-lent (a .args .costs .now) n (272 * n + n + 1) (omega arith) in
-    (few, (omega arith, (s .totalled, (s .parented, s .ranked))))
+begin-requires c κs = search needs
 
 slice-aggregate-rounds : tie.Need-slice-aggregate-rounds
 slice-aggregate-rounds c = search needs
 
+slice-aggregate-rounds-2 : tie.Need-slice-aggregate-rounds-2
+slice-aggregate-rounds-2 c = search needs
+
 rounds-requires : tie.Need-rounds-requires
 rounds-requires c κs =
-    let b = c .before .before .before .before .before .before .before .before .before .before in
-    let f = b .before .before .before .before .before .before in
+    let b = c .before .before .before .before .before .before .before .before .before .before .before in
+    let o = b .before .before .before .before .before .before in
+    let f = o .before .before .before in
     let a = f .before .before .before .before .before .before .before in
     let s = a .pre .1 .0 in
     let few = a .pre .1 .1 .few in (
       search needs,
       (
-        record { planned = s .planned; costed = s .costed; totalled = search needs; parented = search needs; ranked = search needs },
+        search needs,
         (
-          heads-ready (a .pre .1 .1) (a .pre .0) (f .fill-heads .last .1 .1 .1 .1 .0) (f .fill-heads .ensures),
-          begun-row (a .args .costs .now) (a .args .new) _ refl (b .begin .ensures),
+          o .fill-open .ensures,
+          (
+            record { planned = s .planned; costed = s .costed; totalled = search needs; parented = search needs; ranked = omega (arith, b .begin) },
+            (
+              heads-ready (a .pre .1 .1) (a .pre .0) (f .fill-heads .last .1 .1 .1 .1 .0) (f .fill-heads .ensures),
+              begun-row (a .args .costs .now) (a .args .new) _ refl (b .begin .ensures),
+            ),
+          ),
         ),
       ),
     )
@@ -131,6 +141,8 @@ search-spec =
     (tie.spec
     slice-aggregate-fill-heads
     fill-heads-requires
+    slice-aggregate-fill-open
+    fill-open-requires
     mul-row
     add-begin
     add-begin-2
@@ -140,6 +152,7 @@ search-spec =
     part-begin-end
     begin-requires
     slice-aggregate-rounds
+    slice-aggregate-rounds-2
     rounds-requires
     same-length
     same-length-2
