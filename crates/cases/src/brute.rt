@@ -1,5 +1,5 @@
 // The work function by its definition: a search over all positions, call by call. It reads the road table and shares nothing with
-// `book`: no plan, no weights, no single moves.
+// `book`: it has no plan and no weights.
 use road::Road;
 use road::Table;
 ghost use Prim.Native.Nat.{_≤_};
@@ -15,7 +15,7 @@ pub(crate) const POSITIONS: usize = 625;
 // More than any movement costs: where no movement leads.
 pub(crate) const FAR: u64 = 1_000_000_000_000;
 
-// A position's places are its first entries, as many as there are cranes; the entries past them are 0.
+// A position's places are its first entries, as many as there are cranes; no function but `listed` reads the others.
 pub type Position = [u16; CRANES];
 
 // For each position, by its code, the least cost of a movement that has come to it.

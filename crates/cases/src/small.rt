@@ -71,7 +71,7 @@ pub(crate) fn day(
     }
 }
 
-// The starts of a small day, 0 past its cranes.
+// The first starts of a day, of which the search reads as many as there are cranes.
 pub(crate) fn starts(day: Day) -> brute::Position {
     let all = day.starts;
     [all[0], all[1], all[2], all[3]]
