@@ -189,7 +189,7 @@ pub(crate) fn begin(table: &Table, size: Size, starts: Position) -> Reached {
 }
 
 // The work function at an end: the least, over all positions that movements have come to, of the cost so far and the distance.
-pub(crate) fn work(table: &Table, size: Size, reached: &Reached, end: Position) -> u64 {
+pub(crate) fn work_at(table: &Table, size: Size, reached: &Reached, end: Position) -> u64 {
     let mut least = FAR;
     for code in 0..POSITIONS {
         let so_far = reached[code];
@@ -208,7 +208,7 @@ pub(crate) fn serve(table: &Table, size: Size, reached: &Reached, place: u16) ->
         let p = position(code);
         if listed(size, p) {
             if holds(size.cranes, p, place) {
-                next[code] = work(table, size, reached, p);
+                next[code] = work_at(table, size, reached, p);
             }
         }
     }
@@ -221,7 +221,7 @@ pub(crate) fn floor(table: &Table, size: Size, reached: &Reached) -> u64 {
     for code in 0..POSITIONS {
         let p = position(code);
         if listed(size, p) {
-            least = lesser(least, work(table, size, reached, p));
+            least = lesser(least, work_at(table, size, reached, p));
         }
     }
     least
@@ -265,7 +265,7 @@ fn sending(
     crane: usize,
 ) -> Sent {
     let metres = way(table, at(stands, crane), place);
-    let least = work(table, size, reached, with(stands, crane, place));
+    let least = work_at(table, size, reached, with(stands, crane, place));
     Sent {
         crane,
         metres,

@@ -83,7 +83,7 @@ fn standing(places: usize, table: &Table, sides: Sides) -> bool {
         cranes: book.cranes,
     };
     let stands = sides.stands;
-    let least = brute::work(table, size, &reached, stands);
+    let least = brute::work_at(table, size, &reached, stands);
     let floor = brute::floor(table, size, &reached);
     costs_agree(book.costs(places, *table), least, floor)
 }

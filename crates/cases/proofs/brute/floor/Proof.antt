@@ -20,8 +20,8 @@ position-requires c κs = search needs
 listed-requires : tie.Need-listed-requires Inv-loop μ-loop
 listed-requires c κs = search needs
 
-work-requires : tie.Need-work-requires Inv-loop μ-loop
-work-requires c κs = search needs
+work-at-requires : tie.Need-work-at-requires Inv-loop μ-loop
+work-at-requires c κs = search needs
 
 lesser-requires : tie.Need-lesser-requires Inv-loop μ-loop
 lesser-requires c κs = search needs
@@ -47,7 +47,7 @@ floor-spec =
     loop-holds
     position-requires
     listed-requires
-    work-requires
+    work-at-requires
     lesser-requires
     add-code
     loop-less

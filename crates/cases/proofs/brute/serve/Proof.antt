@@ -26,8 +26,8 @@ listed-requires c κs = search needs
 holds-requires : tie.Need-holds-requires Inv-loop μ-loop
 holds-requires c κs = search needs
 
-work-requires : tie.Need-work-requires Inv-loop μ-loop
-work-requires c κs = search needs
+work-at-requires : tie.Need-work-at-requires Inv-loop μ-loop
+work-at-requires c κs = search needs
 
 mul-next : tie.Need-mul-next Inv-loop μ-loop
 mul-next c = search needs
@@ -60,7 +60,7 @@ serve-spec =
     position-requires
     listed-requires
     holds-requires
-    work-requires
+    work-at-requires
     mul-next
     array-write-next
     add-code

@@ -1,9 +1,9 @@
--- `cases::brute::work` is safe: the loop goes through the positions.
+-- `cases::brute::work_at` is safe: the loop goes through the positions.
 -- Assumes nothing.
 use Prim.Native.Nat.{_-_, _≤_}
 use borrow.Author.Needs.{needs}
-use Rattle.cases.proofs.brute.work.Statement.{statement}
-use Rattle.cases.proofs.brute.work.Tie as tie
+use Rattle.cases.proofs.brute.work_at.Statement.{statement}
+use Rattle.cases.proofs.brute.work_at.Tie as tie
 
 abbrev Inv-loop : tie.InvT-loop
 Inv-loop table size reached end least₀ code₀ least code = code ≤ 625
@@ -44,8 +44,8 @@ loop-again c = search needs
 returns : tie.Need-returns Inv-loop μ-loop
 returns c = search needs
 
-pub work-spec : {M : Type 1} → statement M
-work-spec =
+pub work-at-spec : {M : Type 1} → statement M
+work-at-spec =
     tie.close
     (tie.spec
     Inv-loop
