@@ -10,7 +10,7 @@ use Rattle.base.specs.declared.Refusal.{Refusal}
 use Rattle.base.specs.declared.Refusal.the-variants.{Length, Record, Order, Metres, Place, Cranes, Calls, Triangle, Plan, Weights, Buffer}
 use Rattle.base.specs.declared.Verdict.{Verdict}
 use Rattle.base.specs.declared.Verdict.the-variants.{Accepted, Refused}
-use Rattle.base.specs.Numbers.{refusalNumber, numberOf, unless, _then_}
+use Rattle.base.specs.Numbers.{refusalNumber, numberOf, unless, _then_, unlessRefused}
 
 -- the verdicts in the order of their numbers
 verdicts : List Verdict
@@ -49,9 +49,19 @@ pub then-zero : (s t : ℕ) → (s then t) ≡ 0 → (s ≡ 0) × (t ≡ 0)
 then-zero zero t h = (refl, h)
 then-zero (suc s) t h = absurd (let z : suc s ≡ 0 = h in omega arith)
 
+-- a first test that refuses is the one that is told
+pub refused-first : (s t : ℕ) → (s ≡ 0 → ⊥) → s ≡ (s then t)
+refused-first zero t h = absurd (h refl)
+refused-first (suc s) t h = refl
+
 -- a rule and the tests after it, where none refuses
 pub first-of : (b : Bool) (k t : ℕ) → (unless b (suc k) then t) ≡ 0 → (b ≡ true) × (t ≡ 0)
 first-of b k t h = let both = then-zero (unless b (suc k)) t h in (unless-zero b k (both .0), both .1)
+
+-- a number other than 0 is that of a refusal
+pub zeros-told : {A : Type 0} (n : ℕ) (values : A) (zeros : ℕ → A) → (n ≡ 0 → ⊥) → zeros n ≡ unlessRefused n values zeros
+zeros-told zero values zeros h = absurd (h refl)
+zeros-told (suc n) values zeros h = refl
 
 -- a test that is known to accept, asked again, leaves the next to decide
 pub asked-again : (s t n : ℕ) → s ≡ 0 → n ≡ (s then t) → n ≡ t

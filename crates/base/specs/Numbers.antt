@@ -34,3 +34,8 @@ unless rule r = cond rule 0 r
 abbrev pub _then_ : ℕ → ℕ → ℕ
 _then_ zero s = s
 _then_ (suc r) s = suc r
+
+-- "A refused call returns the number, .. other results 0": the values where no refusal applies, else what goes with its number
+abbrev pub unlessRefused : {A : Type 0} → ℕ → A → (ℕ → A) → A
+unlessRefused zero values zeros = values
+unlessRefused (suc n) values zeros = zeros (suc n)

@@ -13,7 +13,7 @@ use native.Mathlib.Omega.{arith}
 use Rattle.base.proofs.Tests.{below-all}
 use Rattle.road.specs.Table.{entry, legsRule, triangleRule}
 use Rattle.dayfile.specs.Day.{stopsRule}
-use Rattle.dayfile.proofs.Limits.{Counted}
+use Rattle.dayfile.proofs.Limits.{CountsTested}
 use Rattle.workfunction.specs.Choice.{choice}
 use Rattle.workfunction.specs.Serving.{Served, servedBy}
 use Rattle.workfunction.proofs.Choice.{choice-below}
@@ -52,7 +52,7 @@ rule-of : (n : ℕ) (l : List ℕ) → ((r : ℕ) → List·Memᴰ r l → r < n
 rule-of n l placed = below-all _ (length l) (λ i h. lt-ltb (getD l i 0) n (placed _ (entry-in l i h)))
 
 -- a day under way is that of a sound book
-kept-sound : {book : Book} {n : ℕ} {d : ℕ → ℕ → ℕ} {costs : List ℕ} → Fits book → Counted n (book .cranes) (book .calls)
+kept-sound : {book : Book} {n : ℕ} {d : ℕ → ℕ → ℕ} {costs : List ℕ} → Fits book → CountsTested n (book .cranes) (book .calls)
     → legsRule n d ≡ true → triangleRule n d ≡ true
     → Kept n d (startsOf book) (requestsOf book) (standsOf book) (book .plan) (book .weights) costs → Sound book n d
 kept-sound {n = n} fits counts legs triangles k = record {
@@ -137,7 +137,7 @@ module _ {book : Book} {n : ℕ} {d : ℕ → ℕ → ℕ} (arrays : Arrays book
   after-sound : bookRefusal (after book r stands plan weights) n d ≡ 0
   after-sound =
       let k = s .counts in
-      let counts : Counted n (book .cranes) (book .calls + 1) =
+      let counts : CountsTested n (book .cranes) (book .calls + 1) =
       record { place = k .place; places = k .places; crane = k .crane; cranes = k .cranes; calls = omega arith }
       in
       sound-book (kept-sound {costs = costs} after-fits counts (s .legs) (s .triangles) (rw (after-stands, after-requests) (answered .kept)))

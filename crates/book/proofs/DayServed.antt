@@ -12,7 +12,7 @@ use native.Mathlib.Omega.{arith}
 use Rattle.base.proofs.Lists.{take-kept, drop-replicate, Filled, fill-begun, fill-turned, fill-ended}
 use Rattle.road.specs.Table.{entry}
 use Rattle.dayfile.specs.declared.Day.{Day}
-use Rattle.dayfile.specs.Day.{startsOf as dayStarts, requestsOf as dayRequests, dayRefusal}
+use Rattle.dayfile.specs.Day.{dayStarts, dayRequests, dayRefusal}
 use Rattle.dayfile.proofs.Limits.{Tested, day-tested, stop-below}
 use Rattle.workfunction.specs.Choice.{moved, choice}
 use Rattle.workfunction.specs.Lists.{sumBelow}
@@ -114,7 +114,7 @@ crane-few ways kept asked answer =
 -- ---- a day that is accepted, with its fresh book
 
 -- no refusal applies to the day, the book is its fresh one, and the arrays have the lengths of their types
-pub record Begun (day : Day) (d : ℕ → ℕ → ℕ) (book : Book) : Type 0 where
+pub record FreshDay (day : Day) (d : ℕ → ℕ → ℕ) (book : Book) : Type 0 where
   pub none : dayRefusal day d ≡ 0
   pub starts : length (day .starts) ≡ 16
   pub requests : length (day .requests) ≡ 256
@@ -123,7 +123,7 @@ pub record Begun (day : Day) (d : ℕ → ℕ → ℕ) (book : Book) : Type 0 wh
   pub plan : length (book .plan) ≡ 272
   pub weights : length (book .weights) ≡ 272
 
-module _ {day : Day} {d : ℕ → ℕ → ℕ} {book : Book} (given : Begun day d book) where
+module _ {day : Day} {d : ℕ → ℕ → ℕ} {book : Book} (given : FreshDay day d book) where
   tests : Tested day d
   tests = day-tested day d (given .none)
 

@@ -36,7 +36,7 @@ module _ (k : ℕ) (f : ℕ → ℕ) (own : (p : ℕ) → p < k → f p ≡ p) w
   unfolding followersRule mayFollow
   own-followers = below-all _ k (λ p h. rw (own p h, lt-ltb p k h))
 
-  own-once : onceRule k k f ≡ true
+  own-once : onceRule k f ≡ true
   unfolding onceRule follows
   own-once = below-all _ k (λ b h. eq-eqb _ 1
       (sum-same k _ (λ p. cond (eqb b p) 1 0) (λ p l. rw (own p l, eqb-both-ways p b)) ∙ sum-one k b (λ p. 1) h))

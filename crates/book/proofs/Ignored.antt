@@ -6,7 +6,7 @@ use Rattle.base.specs.Numbers.{unless, _then_}
 use Rattle.base.proofs.Numbers.{unless-zero}
 use Rattle.base.proofs.Tests.{below-same}
 use Rattle.road.proofs.Table.{same-legs, same-triangles}
-use Rattle.dayfile.proofs.Limits.{counted}
+use Rattle.dayfile.proofs.Limits.{counts-tested}
 use Rattle.workfunction.specs.Plan.{follows, followersRule, onceRule, planRule}
 use Rattle.workfunction.proofs.Sums.{sum-same}
 use Rattle.book.specs.declared.Book.{Book}
@@ -24,7 +24,7 @@ pub same-plan : (k n : ℕ) (f g : ℕ → ℕ) → ((p : ℕ) → p < n → f p
 unfolding planRule followersRule onceRule follows
 same-plan k n f g same =
     let followers : followersRule k n f ≡ followersRule k n g = below-same _ _ n (λ p h. rw (same p h)) in
-    let once : onceRule k n f ≡ onceRule k n g = below-same _ _ n (λ b l. rw (sum-same n (follows f b) (follows g b) (λ p h. rw (same p h)))) in
+    let once : onceRule n f ≡ onceRule n g = below-same _ _ n (λ b l. rw (sum-same n (follows f b) (follows g b) (λ p h. rw (same p h)))) in
     rw (followers, once)
 
 module _ (a b : Book) (n : ℕ) (d e : ℕ → ℕ → ℕ) (books : SameBook a b) (tables : (u v : ℕ) → u < n → v < n → d u v ≡ e u v) where
@@ -40,5 +40,5 @@ module _ (a b : Book) (n : ℕ) (d e : ℕ → ℕ → ℕ) (books : SameBook a 
       same-tests _ _ _ _ (ap (λ t. unless t 8) (same-triangles n d e tables)) (λ w.
       same-tests _ _ _ _ (ap (λ t. unless t 9) (same-plan (b .cranes) (stopsOf b) _ _ (books .plan))) (λ p.
       same-weights (b .cranes) (stopsOf b) (a .plan) (a .weights) _ _ (b .plan) (b .weights) (unless-zero _ 8 p) (books .plan) (books .weights)
-      (λ q f h l. same-costs (counted n (b .cranes) (b .calls) c .place) (startsOf b) (requestsOf b) (standsOf b)
+      (λ q f h l. same-costs (counts-tested n (b .cranes) (b .calls) c .place) (startsOf b) (requestsOf b) (standsOf b)
       (unless-zero _ 4 s) (unless-zero _ 4 r) (unless-zero _ 4 t) d e tables q f)))))))))

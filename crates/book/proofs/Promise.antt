@@ -10,7 +10,7 @@ use lib.Seq.{length-take-le}
 use Rattle.base.proofs.Lists.{getD-padded}
 use Rattle.base.proofs.Numbers.{then-zero, first-of}
 use Rattle.dayfile.specs.declared.Day.{Day}
-use Rattle.dayfile.specs.Day.{startsOf as dayStarts, requestsOf as dayRequests, dayRefusal}
+use Rattle.dayfile.specs.Day.{dayStarts, dayRequests, dayRefusal}
 use Rattle.dayfile.proofs.Limits.{Tested, day-tested}
 use Rattle.workfunction.specs.Choice.{moveSum, rearrangementSum}
 use Rattle.workfunction.specs.Movement.{Instance, Serves, Movement, cost, work, floor}
@@ -22,7 +22,7 @@ use Rattle.workfunction.proofs.Movement.{work-attained, work-below, floor-attai
 use Rattle.workfunction.proofs.Serving.{serve-least}
 use Rattle.book.specs.declared.Book.{Book}
 use Rattle.book.specs.Book.{startsOf, standsOf, requestsOf, stopsOf, follower, bookRefusal}
-use Rattle.book.specs.Serving.{callRefusal, unserved, figuresOf, costsOf, servedDay}
+use Rattle.book.specs.Serving.{servingRefusal, unserved, figuresOf, costsOf, servedDay}
 use Rattle.book.proofs.Sound.{Arrays, placed, Sound, book-sound, sound-metric, sound-cranes, sound-instance, sound-standing, sound-work}
 
 module _ {book : Book} (arrays : Arrays book) (n : ℕ) (d : ℕ → ℕ → ℕ) where
@@ -70,7 +70,7 @@ module _ {book : Book} (arrays : Arrays book) (n : ℕ) (d : ℕ → ℕ → ℕ
         rw floor-is (floor-below d (sound-instance arrays rules) (rw (sound-cranes arrays rules) c) (rw (sound-cranes arrays rules) m))
 
   -- "No rearrangement with a crane at the next call beats the single move chosen", whose sum is the least after it and the drive
-  pub no-better-rearrangement : (r : ℕ) → callRefusal book n d r ≡ 0 → {C : List ℕ} → Serves n (book .cranes) r C
+  pub no-better-rearrangement : (r : ℕ) → servingRefusal book n d r ≡ 0 → {C : List ℕ} → Serves n (book .cranes) r C
       → figuresOf book n d r .least + figuresOf book n d r .metres ≤ rearrangementSum d n (startsOf book) (requestsOf book) (standsOf book) r C
   unfolding servedBy moveSum
   no-better-rearrangement r accepted c =

@@ -11,7 +11,7 @@ use Rattle.base.proofs.Numbers.{unless-zero, then-zero, first-of}
 use Rattle.road.specs.Table.{entry, legsRule, triangleRule}
 use Rattle.road.proofs.Table.{tested-metric}
 use Rattle.dayfile.specs.Day.{stopsRule, countsRefusal}
-use Rattle.dayfile.proofs.Limits.{Counted, counted, counts-accepted, stop-below}
+use Rattle.dayfile.proofs.Limits.{CountsTested, counts-tested, counts-accepted, stop-below}
 use Rattle.workfunction.specs.Movement.{Instance, work}
 use Rattle.workfunction.specs.Plan.{planRule, vouchRule, planCost, stops, legCost}
 use Rattle.workfunction.specs.Position.{Position}
@@ -60,7 +60,7 @@ placed n l rule m = let at = slot-of m in rw (← at .2) (stop-below n l rule (a
 
 -- "A book is sound if none of 3 to 10 .. applies to it and its table": by its rules
 pub record Sound (book : Book) (n : ℕ) (d : ℕ → ℕ → ℕ) : Type 0 where
-  pub counts : Counted n (book .cranes) (book .calls)
+  pub counts : CountsTested n (book .cranes) (book .calls)
   pub legs : legsRule n d ≡ true
   pub starts : stopsRule n (startsOf book) ≡ true
   pub requests : stopsRule n (requestsOf book) ≡ true
@@ -84,7 +84,7 @@ module _ {book : Book} {n : ℕ} {d : ℕ → ℕ → ℕ} where
       let plan = first-of (planRule (book .cranes) (stopsOf book) (follower (book .plan))) 8 _ (triangles .1) in
       let weights = and-eq-true-iff (rangeRule (stopsOf book) (weight (book .weights))) _ .0 (unless-zero _ 9 (plan .1)) in
       record {
-        counts = counted n (book .cranes) (book .calls) (counts .0);
+        counts = counts-tested n (book .cranes) (book .calls) (counts .0);
         legs = legs .0;
         starts = starts .0;
         requests = requests .0;

@@ -1,5 +1,5 @@
 -- The book of document 01: the first refusal that applies to it, and the fresh book.
-use Prim.Native.Nat.{ℕ, zero, suc, _+_, _<_}
+use Prim.Native.Nat.{ℕ, _+_, _<_}
 use mathlib.Core.Bool.{Bool, _&&_}
 use mathlib.Core.List.{List}
 use mathlib.Core.Path.{_≡_}
@@ -7,7 +7,7 @@ use lib.IntN.{ℤ, pos, negsuc}
 use lib.ListN.{getD, take, replicate}
 use lib.Signed.{leZ}
 use Rattle.base.specs.Lists.{padded}
-use Rattle.base.specs.Numbers.{unless, _then_, numberOf}
+use Rattle.base.specs.Numbers.{unless, _then_, unlessRefused, numberOf}
 use Rattle.base.specs.Tests.{allBelow}
 use Rattle.road.specs.Table.{legsRefusal, triangleRefusal}
 use Rattle.dayfile.specs.Day.{countsRefusal, stopsRefusal, dayRefusal}
@@ -109,11 +109,8 @@ pub record Opened : Type 0 where
 abbrev pub opening : Opening → Opened
 opening r = record { number = numberOf (r .verdict); book = r .book }
 
--- a book unless it is refused
-abbrev pub openedOf : ℕ → Book → Opened
-openedOf zero book = record { number = 0; book = book }
-openedOf (suc n) book = record { number = suc n; book = emptyBook }
-
 -- "Opening a fresh book and writing a day run the same tests on what they are given"
 unfoldable pub freshOf : Day → (ℕ → ℕ → ℕ) → Opened
-freshOf day d = openedOf (dayRefusal day d) (freshBook (day .cranes) (day .starts))
+freshOf day d =
+    unlessRefused (dayRefusal day d) (record { number = 0; book = freshBook (day .cranes) (day .starts) })
+    (λ n. record { number = n; book = emptyBook })

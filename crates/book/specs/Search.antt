@@ -52,7 +52,7 @@ pub record Nearest (n : ℕ) (stop head total : ℕ → ℕ) (i : ℕ) : Type 0 
   pub least : (j : ℕ) → j < n → total (stop i) + head (stop i) ≤ total (stop j) + head (stop j)
 
 -- the way over the stop `from`, of net cost `net`, is no better for p
-pub record Kept (limit net : ℕ) (row total parent total' parent' : ℕ → ℕ) (p : ℕ) : Type 0 where
+pub record Unbettered (limit net : ℕ) (row total parent total' parent' : ℕ → ℕ) (p : ℕ) : Type 0 where
   pub same : total' p ≡ total p
   pub parented : parent' p ≡ parent p
   pub least : p < limit → total p ≤ net + row p
@@ -66,7 +66,7 @@ pub record Bettered (limit net from : ℕ) (row total total' parent' : ℕ → �
 
 -- one row of work: one or the other holds of each stop
 pub record Relaxed (limit net from : ℕ) (row total parent total' parent' : ℕ → ℕ) : Type 0 where
-  pub each : (p : ℕ) → Kept limit net row total parent total' parent' p ⊎ Bettered limit net from row total total' parent' p
+  pub each : (p : ℕ) → Unbettered limit net row total parent total' parent' p ⊎ Bettered limit net from row total total' parent' p
 
 -- what the rounds stand on: a plan of N stops, leg costs within the limit of a leg, and heads that vouch, up to 2^42
 pub record Ready (k N : ℕ) (f : ℕ → ℕ) (c : ℕ → ℕ → ℕ) (head : ℕ → ℕ) : Type 0 where

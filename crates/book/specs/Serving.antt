@@ -1,14 +1,13 @@
 -- What serving a call, the two costs and the served day give, for every input.
-use Prim.Native.Nat.{ℕ, zero, suc, _+_, _≤_}
+use Prim.Native.Nat.{ℕ, _+_, _≤_}
 use mathlib.Core.List.{List, []}
 use mathlib.Core.Path.{_≡_}
 use lib.Dec.{ltb}
 use lib.IntN.{ℤ, pos}
 use lib.ListN.{getD, set, replicate}
 use Rattle.base.specs.Lists.{padded}
-use Rattle.base.specs.Numbers.{unless, _then_, numberOf}
-use Rattle.dayfile.specs.Day.{dayRefusal}
-use Rattle.dayfile.specs.Day.{startsOf as dayStarts, requestsOf as dayRequests}
+use Rattle.base.specs.Numbers.{unless, _then_, unlessRefused, numberOf}
+use Rattle.dayfile.specs.Day.{dayStarts, dayRequests, dayRefusal}
 use Rattle.dayfile.specs.declared.Day.{Day}
 use Rattle.workfunction.specs.Choice.{moved}
 use Rattle.workfunction.specs.Lists.{sumBelow}
@@ -27,8 +26,8 @@ abbrev pub askedRefusal : ℕ → ℕ → ℕ → ℕ
 askedRefusal n m r = unless (ltb r n) 5 then unless (ltb m 256) 7
 
 -- the tests of a book, then those
-abbrev pub callRefusal : Book → ℕ → (ℕ → ℕ → ℕ) → ℕ → ℕ
-callRefusal book n d r = bookRefusal book n d then askedRefusal n (book .calls) r
+abbrev pub servingRefusal : Book → ℕ → (ℕ → ℕ → ℕ) → ℕ → ℕ
+servingRefusal book n d r = bookRefusal book n d then askedRefusal n (book .calls) r
 
 -- "Entries past the counts .. are 0 in a returned .. book."
 unfoldable pub tidied : Book → Book
@@ -69,20 +68,18 @@ outcome r = record { number = numberOf (r .verdict); figures = record { crane = 
 abbrev pub unserved : Served
 unserved = record { crane = 0; metres = 0; least = 0 }
 
--- "A refused call returns the number, .. other results 0, and the caller's book exactly as given, entries past its counts
--- included"
-abbrev pub outcomeOf : ℕ → Served → Book → Book → Outcome
-outcomeOf zero figures book old = record { number = 0; figures = figures; book = book }
-outcomeOf (suc n) figures book old = record { number = suc n; figures = unserved; book = old }
-
 -- the figures of a call at r: "The crane chosen has the least w(C(s)) + d(s,r)", over the work function of the book
 abbrev pub figuresOf : Book → ℕ → (ℕ → ℕ → ℕ) → ℕ → Served
 figuresOf book n d r = served d n (startsOf book) (requestsOf book) (standsOf book) r
 
--- what serving gives. "Open are the plan and weights of the book after a served call": they are taken as they come.
+-- what serving gives. "Open are the plan and weights of the book after a served call": they are taken as they come. "A refused
+-- call returns the number, .. other results 0, and the caller's book exactly as given, entries past its counts included"
 unfoldable pub servedOf : Book → ℕ → (ℕ → ℕ → ℕ) → ℕ → List ℕ → List ℤ → Outcome
 servedOf book n d r plan weights =
-    outcomeOf (callRefusal book n d r) (figuresOf book n d r) (bookAfter (tidied book) (figuresOf book n d r .crane) r plan weights) book
+    let told = figuresOf book n d r in
+    unlessRefused (servingRefusal book n d r)
+    (record { number = 0; figures = told; book = bookAfter (tidied book) (told .crane) r plan weights })
+    (λ m. record { number = m; figures = unserved; book = book })
 
 -- "of them it holds that the book is sound", and that "entries past the counts .. are 0"
 pub record Next (book : Book) (n : ℕ) (d : ℕ → ℕ → ℕ) : Type 0 where
@@ -101,14 +98,16 @@ pub record TwoCosts : Type 0 where
 abbrev pub twoCosts : Costs → TwoCosts
 twoCosts r = record { number = numberOf (r .verdict); least = r .least; floor = r .floor }
 
-abbrev pub costsOr : ℕ → ℕ → ℕ → TwoCosts
-costsOr zero least floor = record { number = 0; least = least; floor = floor }
-costsOr (suc n) least floor = record { number = suc n; least = 0; floor = 0 }
-
 -- "The costs of a book: 'least' is w(stands); 'floor' is the smallest w(C) over all C."
 unfoldable pub costsOf : Book → ℕ → (ℕ → ℕ → ℕ) → TwoCosts
 costsOf book n d =
-    costsOr (bookRefusal book n d) (work d n (startsOf book) (requestsOf book) (standsOf book)) (floor d n (startsOf book) (requestsOf book))
+    unlessRefused (bookRefusal book n d)
+    (record {
+      number = 0;
+      least = work d n (startsOf book) (requestsOf book) (standsOf book);
+      floor = floor d n (startsOf book) (requestsOf book);
+    })
+    (λ m. record { number = m; least = 0; floor = 0 })
 
 -- ---- the served day
 
@@ -139,8 +138,9 @@ dayFigures r =
 abbrev pub nth : List Served → ℕ → Served
 nth all i = getD all i unserved
 
-abbrev pub dayOr : ℕ → ℕ → List Served → ℕ → DayFigures
-dayOr zero m all floor =
+-- of m calls served
+abbrev pub allFigures : ℕ → List Served → ℕ → DayFigures
+allFigures m all floor =
     record {
       number = 0;
       calls = m;
@@ -150,9 +150,12 @@ dayOr zero m all floor =
       driven = sumBelow m (λ i. nth all i .metres);
       floor = floor;
     }
-dayOr (suc n) m all floor =
+
+-- "other results 0"
+abbrev pub noFigures : ℕ → DayFigures
+noFigures n =
     record {
-      number = suc n;
+      number = n;
       calls = 0;
       cranes = replicate 256 0;
       metres = replicate 256 0;
@@ -164,5 +167,7 @@ dayOr (suc n) m all floor =
 -- "serves the calls from a fresh book": its stands are the starts
 unfoldable pub servedDay : Day → (ℕ → ℕ → ℕ) → DayFigures
 servedDay day d =
-    dayOr (dayRefusal day d) (day .calls) (serve d (day .places) (dayStarts day) [] (dayStarts day) (dayRequests day))
-    (floor d (day .places) (dayStarts day) (dayRequests day))
+    unlessRefused (dayRefusal day d)
+    (allFigures (day .calls) (serve d (day .places) (dayStarts day) [] (dayStarts day) (dayRequests day))
+    (floor d (day .places) (dayStarts day) (dayRequests day)))
+    noFigures

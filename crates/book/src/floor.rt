@@ -7,14 +7,14 @@ use crate::plan;
 use road::Table;
 ghost use mathlib.Core.Path.{_≡_};
 ghost use Prim.Native.Nat.{ℕ};
-ghost use Rattle.road.specs.Table.{distance, entry};
+ghost use Rattle.road.specs.Table.{metresOf, entry};
 ghost use Rattle.workfunction.specs.Movement.{floor as Movement·floor};
 ghost use Rattle.book.specs.Insertion.{Roads, Asked};
 
 // At first each start is followed by its own end; then the calls are taken in, in their order.
 pub(crate) fn floor(table: &Table, starts: &[u16], calls: &[u16]) -> u64
-    requires { ⌜ ((n : ℕ) × ((d : ℕ → ℕ → ℕ) × (Roads n d (entry (distance (now table))) × Asked n (now starts) (now calls)))) ⌝ }
-    ensures { λ r. ⌜ ((n : ℕ) (d : ℕ → ℕ → ℕ) → Roads n d (entry (distance (now (table .entry)))) → Asked n (now (starts .entry)) (now (calls .entry)) → r ≡ Movement·floor d n (now (starts .entry)) (now (calls .entry))) ⌝ }
+    requires { ⌜ ((n : ℕ) × ((d : ℕ → ℕ → ℕ) × (Roads n d (entry (metresOf (now table))) × Asked n (now starts) (now calls)))) ⌝ }
+    ensures { λ r. ⌜ ((n : ℕ) (d : ℕ → ℕ → ℕ) → Roads n d (entry (metresOf (now (table .entry)))) → Asked n (now (starts .entry)) (now (calls .entry)) → r ≡ Movement·floor d n (now (starts .entry)) (now (calls .entry))) ⌝ }
 {
     let cranes = starts.len();
     let stops = cranes + calls.len();

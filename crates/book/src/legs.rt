@@ -7,7 +7,7 @@ ghost use mathlib.Core.Path.{_≡_};
 ghost use Prim.Native.Nat.{ℕ, _+_, _*_, _<_, _≤_};
 ghost use lib.ListN.{length, getD};
 ghost use Rattle.base.specs.Lists.{upTo};
-ghost use Rattle.road.specs.Table.{distance, entry};
+ghost use Rattle.road.specs.Table.{metresOf, entry};
 ghost use Rattle.workfunction.specs.Plan.{stops, place, legCost, freeCost};
 ghost use Rattle.book.specs.Legs.{legAt, Rows, fromRow, LegTable};
 
@@ -39,7 +39,7 @@ fn place_of(first: &[u16], calls: &[u16], p: usize) -> usize
 // The row of a follower at the place `to`: the metres to it from each stop.
 fn fill_row(table: &Table, starts: &[u16], calls: &[u16], to: usize, row: &mut [u32])
     requires { ⌜ length (now row) ≤ stops (now starts) (now calls) ⌝ }
-    ensures { λ _. ⌜ now (row .exit) ≡ upTo (length (now (row .entry))) (λ p. entry (distance (now (table .entry))) (place (now (starts .entry)) (now (calls .entry)) p) to) ⌝ }
+    ensures { λ _. ⌜ now (row .exit) ≡ upTo (length (now (row .entry))) (λ p. entry (metresOf (now (table .entry))) (place (now (starts .entry)) (now (calls .entry)) p) to) ⌝ }
 {
     let mut p = 0;
     while p < row.len() {
@@ -58,7 +58,7 @@ fn fill_rows(
     costs: &mut [u32],
 )
     requires { ⌜ (length (now stands) ≡ length (now starts)) × ((first ≤ length (now stands)) × ((stops (now starts) (now calls) ≤ 272) × (272 * 272 ≤ length (now costs)))) ⌝ }
-    ensures { λ _. ⌜ Rows (stops (now (starts .entry)) (now (calls .entry))) (stops (now (starts .entry)) (now (calls .entry))) (fromRow first (legAt (now (costs .entry))) (legCost (entry (distance (now (table .entry)))) (now (starts .entry)) (now (calls .entry)) (now (stands .entry)))) (now (costs .exit)) ⌝ }
+    ensures { λ _. ⌜ Rows (stops (now (starts .entry)) (now (calls .entry))) (stops (now (starts .entry)) (now (calls .entry))) (fromRow first (legAt (now (costs .entry))) (legCost (entry (metresOf (now (table .entry)))) (now (starts .entry)) (now (calls .entry)) (now (stands .entry)))) (now (costs .exit)) ⌝ }
 {
     let stops = starts.len() + calls.len();
     let mut b = first;
@@ -78,7 +78,7 @@ fn fill_rows(
 // The whole table of a book's legs.
 pub(crate) fn fill(table: &Table, starts: &[u16], calls: &[u16], stands: &[u16], costs: &mut [u32])
     requires { ⌜ (length (now stands) ≡ length (now starts)) × ((stops (now starts) (now calls) ≤ 272) × (272 * 272 ≤ length (now costs))) ⌝ }
-    ensures { λ _. ⌜ LegTable (entry (distance (now (table .entry)))) (now (starts .entry)) (now (calls .entry)) (now (stands .entry)) (now (costs .exit)) ⌝ }
+    ensures { λ _. ⌜ LegTable (entry (metresOf (now (table .entry)))) (now (starts .entry)) (now (calls .entry)) (now (stands .entry)) (now (costs .exit)) ⌝ }
 {
     fill_rows(table, starts, calls, stands, 0, costs);
 }
@@ -93,7 +93,7 @@ fn fill_column(
     costs: &mut [u32],
 )
     requires { ⌜ (p < 272) × ((p ≤ stops (now stands) (now calls)) × (272 * 272 ≤ length (now costs))) ⌝ }
-    ensures { λ _. ⌜ ((b : ℕ) → b < p → legAt (now (costs .exit)) p b ≡ entry (distance (now (table .entry))) from (place (now (stands .entry)) (now (calls .entry)) b)) × ((q b : ℕ) → q < p → legAt (now (costs .exit)) q b ≡ legAt (now (costs .entry)) q b) ⌝ }
+    ensures { λ _. ⌜ ((b : ℕ) → b < p → legAt (now (costs .exit)) p b ≡ entry (metresOf (now (table .entry))) from (place (now (stands .entry)) (now (calls .entry)) b)) × ((q b : ℕ) → q < p → legAt (now (costs .exit)) q b ≡ legAt (now (costs .entry)) q b) ⌝ }
 {
     let mut b = 0;
     while b < p {
@@ -112,8 +112,8 @@ pub(crate) fn extend(
     at: u16,
     costs: &mut [u32],
 )
-    requires { ⌜ (length (now stands) ≡ length (now starts)) × ((stops (now starts) (now calls) < 272) × ((272 * 272 ≤ length (now costs)) × LegTable (entry (distance (now table))) (now starts) (now calls) (now stands) (now costs))) ⌝ }
-    ensures { λ _. ⌜ LegTable (entry (distance (now (table .entry)))) (now (starts .entry)) (now (calls .entry) ++ (at ∷ [])) (now (stands .entry)) (now (costs .exit)) ⌝ }
+    requires { ⌜ (length (now stands) ≡ length (now starts)) × ((stops (now starts) (now calls) < 272) × ((272 * 272 ≤ length (now costs)) × LegTable (entry (metresOf (now table))) (now starts) (now calls) (now stands) (now costs))) ⌝ }
+    ensures { λ _. ⌜ LegTable (entry (metresOf (now (table .entry)))) (now (starts .entry)) (now (calls .entry) ++ (at ∷ [])) (now (stands .entry)) (now (costs .exit)) ⌝ }
 {
     let new = starts.len() + calls.len();
     let row = ROW * new;
@@ -138,7 +138,7 @@ pub(crate) fn copy_row(count: usize, from: usize, to: usize, costs: &mut [u32])
 // The table of legs with free ends, from one of zeros: the rows of the calls.
 pub(crate) fn fill_free(table: &Table, starts: &[u16], calls: &[u16], costs: &mut [u32])
     requires { ⌜ (stops (now starts) (now calls) ≤ 272) × ((272 * 272 ≤ length (now costs)) × ((i : ℕ) → getD (now costs) i 0 ≡ 0)) ⌝ }
-    ensures { λ _. ⌜ Rows (stops (now (starts .entry)) (now (calls .entry))) (stops (now (starts .entry)) (now (calls .entry))) (freeCost (entry (distance (now (table .entry)))) (now (starts .entry)) (now (calls .entry))) (now (costs .exit)) ⌝ }
+    ensures { λ _. ⌜ Rows (stops (now (starts .entry)) (now (calls .entry))) (stops (now (starts .entry)) (now (calls .entry))) (freeCost (entry (metresOf (now (table .entry)))) (now (starts .entry)) (now (calls .entry))) (now (costs .exit)) ⌝ }
 {
     fill_rows(table, starts, calls, starts, starts.len(), costs);
 }

@@ -21,12 +21,12 @@ ghost use mathlib.Core.Path.{_≡_};
 ghost use Prim.Native.Nat.{ℕ, _*_, _≤_};
 ghost use lib.ListN.{length};
 ghost use Rattle.base.specs.Numbers.{numberOf, _then_};
-ghost use Rattle.road.specs.Table.{distance, entry};
+ghost use Rattle.road.specs.Table.{metresOf, entry};
 ghost use Rattle.dayfile.specs.Day.{stopsRefusal, dayRefusal};
 ghost use Rattle.workfunction.specs.Plan.{planRule, planCost, legCost};
 ghost use Rattle.book.specs.Book.{startsOf, standsOf, requestsOf, stopsOf, follower, weightsRefusal, bookRefusal, opening, freshOf};
 ghost use Rattle.book.specs.Legs.{LegTable};
-ghost use Rattle.book.specs.Serving.{askedRefusal, callRefusal, tidied, bookAfter, outcome, unserved, figuresOf, servedOf, Next, twoCosts, costsOf, dayFigures, servedDay};
+ghost use Rattle.book.specs.Serving.{askedRefusal, servingRefusal, tidied, bookAfter, outcome, unserved, figuresOf, servedOf, Next, twoCosts, costsOf, dayFigures, servedDay};
 
 // A book in memory, beside its road table. Entries past the counts are ignored where a book is given, and 0 in a book
 // that is returned. Stops and followers have the same numbers: the cranes' starts or stands first, then the calls.
@@ -96,7 +96,7 @@ impl Book {
     // The fresh book of a day: no calls, each crane at its start, start j followed by stand j, weights 0; the same test of
     // the day as for writing it.
     pub fn fresh(day: Day, table: Table) -> Opening
-        ensures { λ r. ⌜ opening r ≡ freshOf day (distance table) ⌝ }
+        ensures { λ r. ⌜ opening r ≡ freshOf day (metresOf table) ⌝ }
     {
         let tested = day.test(table);
         let Verdict::Accepted = tested else {
@@ -114,7 +114,7 @@ impl Book {
 
     // The whole test of a book against a table: 3, 6, 7, 4, 5 of starts, calls and stands, 8, 9, 10.
     pub fn test(self, places: usize, table: Table) -> Verdict
-        ensures { λ r. ⌜ numberOf r ≡ bookRefusal self places (distance table) ⌝ }
+        ensures { λ r. ⌜ numberOf r ≡ bookRefusal self places (metresOf table) ⌝ }
     {
         let cranes = self.cranes;
         let calls = self.calls;
@@ -146,7 +146,7 @@ impl Book {
     // are the only part of the result that document 01 leaves open: of them it holds that the book is sound and has 0 past its
     // counts. All else is one equation, for every input.
     pub fn serve(self, places: usize, table: Table, place: u16) -> Serving
-        ensures { λ r. ⌜ (outcome r ≡ servedOf self places (distance table) place (r .book .plan) (r .book .weights)) × (callRefusal self places (distance table) place ≡ 0 → Next (r .book) places (distance table)) ⌝ }
+        ensures { λ r. ⌜ (outcome r ≡ servedOf self places (metresOf table) place (r .book .plan) (r .book .weights)) × (servingRefusal self places (metresOf table) place ≡ 0 → Next (r .book) places (metresOf table)) ⌝ }
     {
         let tested = self.test(places, table);
         let Verdict::Accepted = tested else {
@@ -161,7 +161,7 @@ impl Book {
 
     // The two costs of a book: the least cost of all movements that end at the stands, and of all movements; the same test.
     pub fn costs(self, places: usize, table: Table) -> Costs
-        ensures { λ r. ⌜ twoCosts r ≡ costsOf self places (distance table) ⌝ }
+        ensures { λ r. ⌜ twoCosts r ≡ costsOf self places (metresOf table) ⌝ }
     {
         let tested = self.test(places, table);
         let Verdict::Accepted = tested else {
@@ -186,7 +186,7 @@ impl Book {
 
     // A whole day, its calls served in turn from the fresh book; the test of the day.
     pub fn serve_day(day: Day, table: Table) -> ServedDay
-        ensures { λ r. ⌜ dayFigures r ≡ servedDay day (distance table) ⌝ }
+        ensures { λ r. ⌜ dayFigures r ≡ servedDay day (metresOf table) ⌝ }
     {
         let tested = day.test(table);
         let Verdict::Accepted = tested else {
@@ -232,8 +232,8 @@ fn turned_down(verdict: Verdict, book: Book) -> Serving
 
 // A call that is accepted.
 fn served(book: Book, table: &Table, place: u16) -> Serving
-    requires { ⌜ ((n : ℕ) × (callRefusal book n (distance (now table)) place ≡ 0)) ⌝ }
-    ensures { λ r. ⌜ ((n : ℕ) → callRefusal book n (distance (now (table .entry))) place ≡ 0 → (outcome r ≡ record { number = 0; figures = figuresOf book n (distance (now (table .entry))) place; book = bookAfter (tidied book) (r .crane) place (r .book .plan) (r .book .weights) }) × Next (r .book) n (distance (now (table .entry)))) ⌝ }
+    requires { ⌜ ((n : ℕ) × (servingRefusal book n (metresOf (now table)) place ≡ 0)) ⌝ }
+    ensures { λ r. ⌜ ((n : ℕ) → servingRefusal book n (metresOf (now (table .entry))) place ≡ 0 → (outcome r ≡ record { number = 0; figures = figuresOf book n (metresOf (now (table .entry))) place; book = bookAfter (tidied book) (r .crane) place (r .book .plan) (r .book .weights) }) × Next (r .book) n (metresOf (now (table .entry)))) ⌝ }
 {
     let tidy = begin::tidy(book);
     let cranes = tidy.cranes;
@@ -276,7 +276,7 @@ fn served(book: Book, table: &Table, place: u16) -> Serving
 // The cost of the kept plan.
 fn least(book: Book, table: &Table) -> u64
     requires { ⌜ (book .cranes ≤ 16) × ((book .calls ≤ 256) × (planRule (book .cranes) (stopsOf book) (follower (book .plan)) ≡ true)) ⌝ }
-    ensures { λ r. ⌜ r ≡ planCost (stopsOf book) (legCost (entry (distance (now (table .entry)))) (startsOf book) (requestsOf book) (standsOf book)) (follower (book .plan)) ⌝ }
+    ensures { λ r. ⌜ r ≡ planCost (stopsOf book) (legCost (entry (metresOf (now (table .entry)))) (startsOf book) (requestsOf book) (standsOf book)) (follower (book .plan)) ⌝ }
 {
     let cranes = book.cranes;
     let calls = book.calls;
@@ -288,8 +288,8 @@ fn least(book: Book, table: &Table) -> u64
 
 // A day that is accepted.
 fn day_served(day: Day, table: &Table) -> ServedDay
-    requires { ⌜ dayRefusal day (distance (now table)) ≡ 0 ⌝ }
-    ensures { λ r. ⌜ dayFigures r ≡ servedDay day (distance (now (table .entry))) ⌝ }
+    requires { ⌜ dayRefusal day (metresOf (now table)) ≡ 0 ⌝ }
+    ensures { λ r. ⌜ dayFigures r ≡ servedDay day (metresOf (now (table .entry))) ⌝ }
 {
     let starts = day.starts;
     let fresh = begin::book(day.cranes, starts);
@@ -353,7 +353,7 @@ fn test_stops(book: Book, places: usize) -> Verdict
 // 10 unless the weights are within their range and vouch for the plan, over the legs of the table.
 fn test_weights(book: Book, table: &Table) -> Verdict
     requires { ⌜ (book .cranes ≤ 16) × ((book .calls ≤ 256) × (planRule (book .cranes) (stopsOf book) (follower (book .plan)) ≡ true)) ⌝ }
-    ensures { λ r. ⌜ numberOf r ≡ weightsRefusal (book .cranes) (stopsOf book) (book .plan) (book .weights) (legCost (entry (distance (now (table .entry)))) (startsOf book) (requestsOf book) (standsOf book)) ⌝ }
+    ensures { λ r. ⌜ numberOf r ≡ weightsRefusal (book .cranes) (stopsOf book) (book .plan) (book .weights) (legCost (entry (metresOf (now (table .entry)))) (startsOf book) (requestsOf book) (standsOf book)) ⌝ }
 {
     let cranes = book.cranes;
     let calls = book.calls;
@@ -367,7 +367,7 @@ fn test_weights(book: Book, table: &Table) -> Verdict
 // The table of a book's legs.
 fn fill_legs(book: Book, table: &Table, costs: &mut [u32])
     requires { ⌜ (book .cranes ≤ 16) × ((book .calls ≤ 256) × (272 * 272 ≤ length (now costs))) ⌝ }
-    ensures { λ _. ⌜ LegTable (entry (distance (now (table .entry)))) (startsOf book) (requestsOf book) (standsOf book) (now (costs .exit)) ⌝ }
+    ensures { λ _. ⌜ LegTable (entry (metresOf (now (table .entry)))) (startsOf book) (requestsOf book) (standsOf book) (now (costs .exit)) ⌝ }
 {
     let cranes = book.cranes;
     let calls = book.calls;

@@ -62,9 +62,9 @@ fn count(stops: usize, plan: &[u16], b: usize) -> usize
 }
 
 // 9 unless every follower follows exactly one stop.
-fn test_once(cranes: usize, stops: usize, plan: &[u16]) -> Verdict
+fn test_once(stops: usize, plan: &[u16]) -> Verdict
     requires { ⌜ stops ≤ length (now plan) ⌝ }
-    ensures { λ r. ⌜ numberOf r ≡ unless (onceRule cranes stops (follower (now (plan .entry)))) 9 ⌝ }
+    ensures { λ r. ⌜ numberOf r ≡ unless (onceRule stops (follower (now (plan .entry)))) 9 ⌝ }
 {
     let mut b = 0;
     while b < stops {
@@ -86,7 +86,7 @@ pub(crate) fn test(cranes: usize, stops: usize, plan: &[u16]) -> Verdict
     let Verdict::Accepted = followed else {
         return followed;
     };
-    test_once(cranes, stops, plan)
+    test_once(stops, plan)
 }
 
 // The cost of a plan: the sum of the legs from each stop to its follower.

@@ -7,7 +7,7 @@ use road::Table;
 ghost use mathlib.Core.List.{[]};
 ghost use Prim.Native.Nat.{ℕ, _<_, _≤_};
 ghost use lib.ListN.{length, getD};
-ghost use Rattle.road.specs.Table.{distance, entry};
+ghost use Rattle.road.specs.Table.{metresOf, entry};
 ghost use Rattle.workfunction.specs.Plan.{stops};
 ghost use Rattle.workfunction.specs.Serving.{serve};
 ghost use Rattle.book.specs.Insertion.{Roads, Kept, Answered, Unmoved, DayAnswered};
@@ -30,8 +30,8 @@ pub(crate) fn serve_call(
     weights: &mut [i64],
     costs: &mut [u32],
 ) -> Step
-    requires { ⌜ ((n : ℕ) × ((d : ℕ → ℕ → ℕ) × (Roads n d (entry (distance (now table))) × (Kept n d (now starts) (now calls) (now stands) (now plan) (now weights) (now costs) × ((place < n) × (length (now calls) < 256)))))) ⌝ }
-    ensures { λ r. ⌜ ((n : ℕ) (d : ℕ → ℕ → ℕ) → Roads n d (entry (distance (now (table .entry)))) → Kept n d (now (starts .entry)) (now (calls .entry)) (now (stands .entry)) (now (plan .entry)) (now (weights .entry)) (now (costs .entry)) → place < n → Answered n d (now (starts .entry)) (now (calls .entry)) (now (stands .entry)) place (record { crane = r .crane; metres = r .metres; least = r .least }) (now (stands .exit)) (now (plan .exit)) (now (weights .exit)) (now (costs .exit))) × Unmoved (stops (now (starts .entry)) (now (calls .entry))) (now (plan .entry)) (now (weights .entry)) (now (plan .exit)) (now (weights .exit)) ⌝ }
+    requires { ⌜ ((n : ℕ) × ((d : ℕ → ℕ → ℕ) × (Roads n d (entry (metresOf (now table))) × (Kept n d (now starts) (now calls) (now stands) (now plan) (now weights) (now costs) × ((place < n) × (length (now calls) < 256)))))) ⌝ }
+    ensures { λ r. ⌜ ((n : ℕ) (d : ℕ → ℕ → ℕ) → Roads n d (entry (metresOf (now (table .entry)))) → Kept n d (now (starts .entry)) (now (calls .entry)) (now (stands .entry)) (now (plan .entry)) (now (weights .entry)) (now (costs .entry)) → place < n → Answered n d (now (starts .entry)) (now (calls .entry)) (now (stands .entry)) place (record { crane = r .crane; metres = r .metres; least = r .least }) (now (stands .exit)) (now (plan .exit)) (now (weights .exit)) (now (costs .exit))) × Unmoved (stops (now (starts .entry)) (now (calls .entry))) (now (plan .entry)) (now (weights .entry)) (now (plan .exit)) (now (weights .exit)) ⌝ }
 {
     let cranes = starts.len();
     let new = cranes + calls.len();
@@ -61,8 +61,8 @@ pub(crate) fn serve_all(
     metres: &mut [u32],
     leasts: &mut [u64],
 ) -> u64
-    requires { ⌜ ((n : ℕ) × ((d : ℕ → ℕ → ℕ) × (Roads n d (entry (distance (now table))) × (Kept n d (now starts) [] (now stands) (now plan) (now weights) (now costs) × (((i : ℕ) → i < length (now requests) → getD (now requests) i 0 < n) × ((length (now requests) ≤ 256) × ((length (now requests) ≤ length (now cranes)) × ((length (now requests) ≤ length (now metres)) × (length (now requests) ≤ length (now leasts)))))))))) ⌝ }
-    ensures { λ r. ⌜ ((n : ℕ) (d : ℕ → ℕ → ℕ) → Roads n d (entry (distance (now (table .entry)))) → Kept n d (now (starts .entry)) [] (now (stands .entry)) (now (plan .entry)) (now (weights .entry)) (now (costs .entry)) → ((i : ℕ) → i < length (now (requests .entry)) → getD (now (requests .entry)) i 0 < n) → DayAnswered (length (now (requests .entry))) (serve d n (now (starts .entry)) [] (now (stands .entry)) (now (requests .entry))) (now (cranes .entry)) (now (metres .entry)) (now (leasts .entry)) (now (cranes .exit)) (now (metres .exit)) (now (leasts .exit)) r) ⌝ }
+    requires { ⌜ ((n : ℕ) × ((d : ℕ → ℕ → ℕ) × (Roads n d (entry (metresOf (now table))) × (Kept n d (now starts) [] (now stands) (now plan) (now weights) (now costs) × (((i : ℕ) → i < length (now requests) → getD (now requests) i 0 < n) × ((length (now requests) ≤ 256) × ((length (now requests) ≤ length (now cranes)) × ((length (now requests) ≤ length (now metres)) × (length (now requests) ≤ length (now leasts)))))))))) ⌝ }
+    ensures { λ r. ⌜ ((n : ℕ) (d : ℕ → ℕ → ℕ) → Roads n d (entry (metresOf (now (table .entry)))) → Kept n d (now (starts .entry)) [] (now (stands .entry)) (now (plan .entry)) (now (weights .entry)) (now (costs .entry)) → ((i : ℕ) → i < length (now (requests .entry)) → getD (now (requests .entry)) i 0 < n) → DayAnswered (length (now (requests .entry))) (serve d n (now (starts .entry)) [] (now (stands .entry)) (now (requests .entry))) (now (cranes .entry)) (now (metres .entry)) (now (leasts .entry)) (now (cranes .exit)) (now (metres .exit)) (now (leasts .exit)) r) ⌝ }
 {
     let mut driven = 0;
     let mut i = 0;

@@ -6,16 +6,16 @@ use mathlib.Core.Path.{_≡_, refl, sym, ap, subst, _∙_}
 use lib.ListN.{length}
 use native.Mathlib.Nat.{zero-add}
 use native.Mathlib.Omega.{arith}
-use Rattle.road.specs.Table.{distance, triangleRefusal}
+use Rattle.road.specs.Table.{metresOf, triangleRefusal}
 use Rattle.dayfile.specs.declared.codec.Record.{Record}
 use Rattle.dayfile.specs.declared.scan.State.{State}
 use Rattle.dayfile.specs.Codec.{records}
 use Rattle.dayfile.specs.File.{Answer, dayOf, ways, tested, refusal, answerOf, readFile}
 use Rattle.dayfile.specs.Legs.{legCount, legTable}
 use Rattle.dayfile.specs.Scan.{Scan, refused, counted, refuseAt, start, lengthRefusal, scan}
-use Rattle.dayfile.proofs.Grammar.{Run, not-refused, run-of, run-counted, run-kept}
+use Rattle.dayfile.proofs.Grammar.{Run, not-refused, run-of, run-counted, run-progress}
 use Rattle.dayfile.proofs.codec.Laws.{length-records}
-use Rattle.dayfile.proofs.scan.Laws.{Kept, kept-start, refuses}
+use Rattle.dayfile.proofs.scan.Laws.{Progress, progress-start, refuses}
 
 -- a scan that counts is a run
 pub scanned-run : (rs : List Record) (s : State) → counted s ≡ scan 0 start rs → Run start rs s
@@ -24,15 +24,15 @@ scanned-run rs s e =
     let same : run .0 ≡ s = cc (run-counted (run .1) 0) in
     subst (Run start rs) same (run .1)
 
-pub kept-read : (bs : List ℕ) (s : State) → Run start (records bs) s → Kept s (length bs / 12)
-kept-read bs s run = subst (Kept s) (zero-add _ ∙ length-records bs) (run-kept run 0 kept-start)
+pub progress-read : (bs : List ℕ) (s : State) → Run start (records bs) s → Progress s (length bs / 12)
+progress-read bs s run = subst (Progress s) (zero-add _ ∙ length-records bs) (run-progress run 0 progress-start)
 
 -- an accepted file: its records, and what a scan of them counts
 pub record File (bs : List ℕ) (all : List Record) (t : State) : Type 0 where
   pub fits : lengthRefusal (length bs) ≡ 0
   pub same : records bs ≡ all
   pub run : Run start all t
-  pub triangles : triangleRefusal (t .second) (distance (legTable (t .second) all)) ≡ 0
+  pub triangles : triangleRefusal (t .second) (metresOf (legTable (t .second) all)) ≡ 0
 
 pub file-read : (bs : List ℕ) (all : List Record) (t : State) → File bs all t → readFile bs ≡ record { number = 0; index = 0; day = dayOf all t }
 unfolding readFile tested
@@ -73,7 +73,7 @@ module _ (bs : List ℕ) where
     unfolding tested
     record-refused i n s e h = answered (refused n i) (rw (long, ← e, refuses i n (counted s) h))
 
-    module _ (s : State) (e : counted s ≡ scan 0 start (records bs)) (n : ℕ) (f : n ≡ triangleRefusal (s .second) (distance (legTable (s .second) (records bs)))) where
+    module _ (s : State) (e : counted s ≡ scan 0 start (records bs)) (n : ℕ) (f : n ≡ triangleRefusal (s .second) (metresOf (legTable (s .second) (records bs)))) where
       -- 8
       pub way-refused : (n ≡ 0 → ⊥) → refusal n 0 ≡ readFile bs
       unfolding tested
@@ -88,6 +88,6 @@ places-read bs = either (tested bs) refl
     either (counted s) e =
         let h : readFile bs .number ≡ 0 = ap (λ (a : Answer). a .number) (sym (answered bs (counted s) e)) in
         let f = accepted-file bs h in
-        let kept : Kept (f .0) (length bs / 12) = kept-read bs (f .0) (f .1 .run) in
+        let kept : Progress (f .0) (length bs / 12) = progress-read bs (f .0) (f .1 .run) in
         rw (file-read bs (records bs) (f .0) (f .1)) (kept .places, omega arith)
     either (refused n i) e = rw (← answered bs (refused n i) e) (zero-le, zero-le)

@@ -23,7 +23,7 @@ use Rattle.dayfile.specs.File.{answerOf}
 use Rattle.dayfile.specs.Legs.{leg, legCount, none}
 use Rattle.dayfile.specs.Scan.{Scan, counted, refuseAt, start, after, bareRefusal, formRefusal, legRefusal, stopRefusal, craneRefusal, callRefusal, recordRefusal, missingRefusal, endRefusal, scan}
 use Rattle.dayfile.proofs.Digits.{Fits, AllFit}
-use Rattle.dayfile.proofs.scan.Laws.{Accepted, a-leg, a-crane, a-call, accepted, leg-next, after-leg, after-crane, after-call, Kept, kept-start, kept-after}
+use Rattle.dayfile.proofs.scan.Laws.{Accepted, a-leg, a-crane, a-call, accepted, leg-next, after-leg, after-crane, after-call, Progress, progress-start, progress-after}
 
 -- an accepted record is not refused
 passes : (s : State) (r : Record) → Accepted s r → recordRefusal s r ≡ 0
@@ -67,25 +67,25 @@ module _ (all : List Record) where
       let rest = run-of rs (i + 1) (after s r) (both .1) in
       (rest .0, more (accepted s r (both .0)) (rest .1))
 
-pub run-kept : {s t : State} {rs : List Record} → Run s rs t → (i : ℕ) → Kept s i → Kept t (i + length rs)
-run-kept (done {s} f k) i h = rw add-zero h
-run-kept (more {s} {t} {r} {rs} a run) i h =
-    subst (Kept t) (omega arith) (run-kept run (i + 1) (kept-after s r i a h))
+pub run-progress : {s t : State} {rs : List Record} → Run s rs t → (i : ℕ) → Progress s i → Progress t (i + length rs)
+run-progress (done {s} f k) i h = rw add-zero h
+run-progress (more {s} {t} {r} {rs} a run) i h =
+    subst (Progress t) (omega arith) (run-progress run (i + 1) (progress-after s r i a h))
 
 -- an accepted record can be written
 stop-fits : (kind p : ℕ) → p < 64 → Fits (stop kind p)
 stop-fits kind p h = record { first = omega arith; second = lit< tt; gap = lit< tt; metres = lit< tt }
 
-fits : (s : State) (r : Record) (i : ℕ) → Accepted s r → Kept s i → Fits r
+fits : (s : State) (r : Record) (i : ℕ) → Accepted s r → Progress s i → Fits r
 fits s r i (a-leg e k n m) h =
     let most : r .metres ≤ 1000000 = within-most 1 1000000 (r .metres) (unless-zero (metresRule (r .metres)) 3 m) in
     subst⁻¹ Fits e (record { first = omega arith; second = omega arith; gap = lit< tt; metres = omega arith })
 fits s r i (a-crane e f m p k) h = subst⁻¹ Fits e (stop-fits 2 (r .first) (omega arith))
 fits s r i (a-call e f p k m) h = subst⁻¹ Fits e (stop-fits 3 (r .first) (omega arith))
 
-pub run-fits : {s t : State} {rs : List Record} → Run s rs t → (i : ℕ) → Kept s i → AllFit rs
+pub run-fits : {s t : State} {rs : List Record} → Run s rs t → (i : ℕ) → Progress s i → AllFit rs
 run-fits (done f k) i h = tt
-run-fits (more {s} {r = r} a run) i h = (fits s r i a h, run-fits run (i + 1) (kept-after s r i a h))
+run-fits (more {s} {r = r} a run) i h = (fits s r i a h, run-fits run (i + 1) (progress-after s r i a h))
 
 -- a leg and a stop within the rules
 abbrev pub IsLeg : ℕ → ℕ → Record → Type 0
@@ -109,7 +109,7 @@ module _ (all : List Record) (s : State) (r : Record) (i : ℕ) (at : getD all i
   here : (P : Record → Type 0) (j : ℕ) → i ≡ j → P r → P (getD all j none)
   here P j e h = subst (λ (k : ℕ). P (getD all k none)) e (subst⁻¹ P at h)
 
-  read-after : Accepted s r → Kept s i → Read all s → Read all (after s r)
+  read-after : Accepted s r → Progress s i → Read all s → Read all (after s r)
   read-after (a-leg e k n m) kept h =
       let idle : s .calls ≡ 0 = kept .idle k in
       let this = here (IsLeg (s .first) (s .second)) (legCount (s .second) + s .first) (omega arith) (e, unless-zero (metresRule (r .metres)) 3 m) in
@@ -140,17 +140,17 @@ module _ (all : List Record) (s : State) (r : Record) (i : ℕ) (at : getD all i
         calls = below-more _ (s .calls) (h .calls) (here (IsStop 3 (s .second)) (legCount (s .second) + s .cranes + s .calls) (omega arith) (e, p));
       })
 
-read-run : (all : List Record) {s t : State} {rs : List Record} → Run s rs t → (i : ℕ) → drop i all ≡ rs → Kept s i → Read all s → Read all t
+read-run : (all : List Record) {s t : State} {rs : List Record} → Run s rs t → (i : ℕ) → drop i all ≡ rs → Progress s i → Read all s → Read all t
 read-run all (done f k) i e kept h = h
 read-run all (more {s} {r = r} {rs} a run) i e kept h =
     let first : getD all i none ≡ getD (drop i all) 0 none = ap (λ (j : ℕ). getD all j none) (sym (add-zero i)) ∙ sym (getD-drop i all 0 none) in
     let at : getD all i none ≡ r = first ∙ ap (λ (l : List Record). getD l 0 none) e in
     let rest : drop (i + 1) all ≡ rs = sym (drop-drop 1 i all) ∙ ap (λ (l : List Record). drop 1 l) e in
-    read-run all run (i + 1) rest (kept-after s r i a kept) (read-after all s r i at a kept h)
+    read-run all run (i + 1) rest (progress-after s r i a kept) (read-after all s r i at a kept h)
 
 pub all-read : (all : List Record) {t : State} → Run start all t → Read all t
 all-read all run =
-    read-run all run 0 refl kept-start
+    read-run all run 0 refl progress-start
     (record {
       legs = λ v p u q. absurd (omega arith);
       row = λ u p. absurd (omega arith);

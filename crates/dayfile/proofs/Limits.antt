@@ -13,7 +13,7 @@ use Rattle.base.proofs.Numbers.{unless-zero, then-zero, first-of}
 use Rattle.base.proofs.Tests.{within-yes, within-least, within-most, below-at, below-all}
 use Rattle.road.specs.Table.{placesRule, placesRefusal, legsRule, triangleRule}
 use Rattle.dayfile.specs.declared.Day.{Day}
-use Rattle.dayfile.specs.Day.{cranesRule, callsRule, stopsRule, countsRefusal, startsOf, requestsOf, dayRefusal, stop, dayRecords}
+use Rattle.dayfile.specs.Day.{cranesRule, callsRule, stopsRule, countsRefusal, dayStarts, dayRequests, dayRefusal, stop, dayRecords}
 use Rattle.dayfile.proofs.Indices.{laid}
 
 -- stops that are tested are places of the table
@@ -29,7 +29,7 @@ module _ (n k : ℕ) (a : ℕ → ℕ) where
   stops-hold h = below-all _ _ (λ j p. let q : j < k = rw length-upTo at p in rw (getD-upTo k a j 0 q) (lt-ltb (a j) n (h j q)))
 
 -- what the tests of the counts say
-pub record Counted (n k m : ℕ) : Type 0 where
+pub record CountsTested (n k m : ℕ) : Type 0 where
   pub place : 1 ≤ n
   pub places : n ≤ 64
   pub crane : 1 ≤ k
@@ -37,9 +37,9 @@ pub record Counted (n k m : ℕ) : Type 0 where
   pub calls : m ≤ 256
 
 module _ (n k m : ℕ) where
-  pub counted : countsRefusal n k m ≡ 0 → Counted n k m
+  pub counts-tested : countsRefusal n k m ≡ 0 → CountsTested n k m
   unfolding countsRefusal
-  counted h =
+  counts-tested h =
       let places = first-of (placesRule n) 2 _ h in
       let cranes = first-of (cranesRule k) 5 _ (places .1) in
       record {
@@ -50,19 +50,19 @@ module _ (n k m : ℕ) where
         calls = leb-true m 256 (unless-zero (callsRule m) 6 (cranes .1));
       }
 
-  pub placed : Counted n k m → placesRefusal n ≡ 0
-  placed h = rw (within-yes 1 64 n (h .place) (h .places))
+  pub places-accepted : CountsTested n k m → placesRefusal n ≡ 0
+  places-accepted h = rw (within-yes 1 64 n (h .place) (h .places))
 
-  pub counts-accepted : Counted n k m → countsRefusal n k m ≡ 0
+  pub counts-accepted : CountsTested n k m → countsRefusal n k m ≡ 0
   unfolding countsRefusal
-  counts-accepted h = rw (placed h, within-yes 1 16 k (h .crane) (h .cranes), le-leb m 256 (h .calls))
+  counts-accepted h = rw (places-accepted h, within-yes 1 16 k (h .crane) (h .cranes), le-leb m 256 (h .calls))
 
 -- what the tests of a day say
 pub record Tested (day : Day) (d : ℕ → ℕ → ℕ) : Type 0 where
-  pub counts : Counted (day .places) (day .cranes) (day .calls)
+  pub counts : CountsTested (day .places) (day .cranes) (day .calls)
   pub legs : legsRule (day .places) d ≡ true
-  pub starts : stopsRule (day .places) (startsOf day) ≡ true
-  pub requests : stopsRule (day .places) (requestsOf day) ≡ true
+  pub starts : stopsRule (day .places) (dayStarts day) ≡ true
+  pub requests : stopsRule (day .places) (dayRequests day) ≡ true
   pub triangles : triangleRule (day .places) d ≡ true
 
 module _ (day : Day) (d : ℕ → ℕ → ℕ) where
@@ -71,10 +71,10 @@ module _ (day : Day) (d : ℕ → ℕ → ℕ) where
   day-tested h =
       let counts = then-zero (countsRefusal (day .places) (day .cranes) (day .calls)) _ h in
       let legs = first-of (legsRule (day .places) d) 3 _ (counts .1) in
-      let starts = first-of (stopsRule (day .places) (startsOf day)) 4 _ (legs .1) in
-      let requests = first-of (stopsRule (day .places) (requestsOf day)) 4 _ (starts .1) in
+      let starts = first-of (stopsRule (day .places) (dayStarts day)) 4 _ (legs .1) in
+      let requests = first-of (stopsRule (day .places) (dayRequests day)) 4 _ (starts .1) in
       record {
-        counts = counted (day .places) (day .cranes) (day .calls) (counts .0);
+        counts = counts-tested (day .places) (day .cranes) (day .calls) (counts .0);
         legs = legs .0;
         starts = starts .0;
         requests = requests .0;
@@ -86,7 +86,7 @@ module _ (day : Day) (d : ℕ → ℕ → ℕ) where
   day-accepted h =
       rw (counts-accepted (day .places) (day .cranes) (day .calls) (h .counts), h .legs, h .starts, h .requests, h .triangles)
 
-  pub day-laid : (a b : ℕ → ℕ) → startsOf day ≡ upTo (day .cranes) a → requestsOf day ≡ upTo (day .calls) b
+  pub day-laid : (a b : ℕ → ℕ) → dayStarts day ≡ upTo (day .cranes) a → dayRequests day ≡ upTo (day .calls) b
       → dayRecords day d ≡ laid d (day .places) a (day .cranes) b (day .calls)
   unfolding dayRecords
   day-laid a b starts requests = rw (starts, requests, map-upTo (stop 2), map-upTo (stop 3))

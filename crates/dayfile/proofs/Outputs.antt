@@ -1,41 +1,39 @@
 -- What writing a day gives: its records one behind another, or the first refusal that applies.
 -- Assumes nothing.
-use Prim.Native.Nat.{ℕ, zero, suc, _+_, _*_, _<_, _≤_}
+use Prim.Native.Nat.{ℕ, _+_, _*_, _<_, _≤_}
 use mathlib.Core.List.{List, _++_, map, append-assoc}
-use mathlib.Core.Path.{_≡_, refl, ap, _∙_}
+use mathlib.Core.Path.{_≡_, ap, _∙_}
 use lib.ListN.{length, length-append, length-map}
 use native.Mathlib.Omega.{arith}
 use Rattle.base.specs.Lists.{splice}
-use Rattle.base.specs.Numbers.{_then_}
+use Rattle.base.proofs.Numbers.{zeros-told, refused-first}
 use borrow.Author.Tests.{le-leb, lt-leb}
 use Rattle.dayfile.specs.declared.Day.{Day}
 use Rattle.dayfile.specs.declared.codec.Record.{Record}
 use Rattle.dayfile.specs.Codec.{encodeAll}
-use Rattle.dayfile.specs.Day.{startsOf, requestsOf, dayRefusal, stop, dayRecords}
-use Rattle.dayfile.specs.File.{outputOf, dayBytes, writeFile}
+use Rattle.dayfile.specs.Day.{dayStarts, dayRequests, dayRefusal, stop, dayRecords}
+use Rattle.dayfile.specs.File.{dayBytes, writeRefusal, writeFile}
 use Rattle.dayfile.specs.Legs.{legCount, legRecords}
 use Rattle.dayfile.proofs.codec.Laws.{length-encodeAll, put-on}
 use Rattle.dayfile.proofs.legs.Laws.{length-legRecords}
-
-left-alone : (n t : ℕ) (bs out : List ℕ) → (n ≡ 0 → ⊥) → record { number = n; length = 0; buffer = out } ≡ outputOf (n then t) bs out
-left-alone zero t bs out h = absurd (h refl)
-left-alone (suc n) t bs out h = refl
 
 -- a refusal of the tests in memory
 pub day-refused : (day : Day) (d : ℕ → ℕ → ℕ) (out : List ℕ) (n : ℕ) → n ≡ dayRefusal day d → (n ≡ 0 → ⊥)
     → record { number = n; length = 0; buffer = out } ≡ writeFile day d out
 unfolding writeFile
-day-refused day d out n e h = rw (← e) (left-alone n _ (dayBytes day d) out h)
+day-refused day d out n e h =
+    let first : n ≡ writeRefusal day d out = rw (← e) (refused-first n _ h) in
+    rw (← first) (zeros-told n _ (λ m. record { number = m; length = 0; buffer = out }) h)
 
-module _ (day : Day) (d : ℕ → ℕ → ℕ) (k : length (startsOf day) ≡ day .cranes) (m : length (requestsOf day) ≡ day .calls) where
+module _ (day : Day) (d : ℕ → ℕ → ℕ) (k : length (dayStarts day) ≡ day .cranes) (m : length (dayRequests day) ≡ day .calls) where
   abbrev legs : List Record
   legs = legRecords d (day .places)
 
   abbrev cranes : List Record
-  cranes = map (stop 2) (startsOf day)
+  cranes = map (stop 2) (dayStarts day)
 
   abbrev calls : List Record
-  calls = map (stop 3) (requestsOf day)
+  calls = map (stop 3) (dayRequests day)
 
   count : length (dayRecords day d) ≡ legCount (day .places) + day .cranes + day .calls
   unfolding dayRecords
@@ -54,8 +52,8 @@ module _ (day : Day) (d : ℕ → ℕ → ℕ) (k : length (startsOf day) ≡ da
   unfolding dayRecords
   all-put old a b e fits p q r =
       let n : length legs ≡ legCount (day .places) = length-legRecords d (day .places) in
-      let c : length cranes ≡ day .cranes = length-map (startsOf day) (stop 2) ∙ k in
-      let l : length calls ≡ day .calls = length-map (requestsOf day) (stop 3) ∙ m in
+      let c : length cranes ≡ day .cranes = length-map (dayStarts day) (stop 2) ∙ k in
+      let l : length calls ≡ day .calls = length-map (dayRequests day) (stop 3) ∙ m in
       let two : length (legs ++ cranes) ≡ legCount (day .places) + day .cranes = length-append legs cranes ∙ (omega arith) in
       let all : length ((legs ++ cranes) ++ calls) ≡ legCount (day .places) + day .cranes + day .calls = length-append (legs ++ cranes) calls ∙ (omega arith) in
       let first : 12 * legCount (day .places) ≡ 12 * (0 + length legs) = omega arith in

@@ -13,13 +13,13 @@ use Rattle.base.specs.Metric.{Metric}
 use Rattle.base.proofs.Lists.{upTo-same, take-upTo, take-padded}
 use Rattle.base.proofs.Numbers.{unless-zero, first-of}
 use Rattle.base.proofs.Tests.{by-order}
-use Rattle.road.specs.Table.{distance, triangleRule}
+use Rattle.road.specs.Table.{metresOf, triangleRule}
 use Rattle.road.proofs.Table.{legs-hold, tested-metric, same-triangles}
 use Rattle.dayfile.specs.declared.Day.{Day}
 use Rattle.dayfile.specs.declared.codec.Record.{Record}
 use Rattle.dayfile.specs.declared.scan.State.{State}
 use Rattle.dayfile.specs.Codec.{records, encodeAll}
-use Rattle.dayfile.specs.Day.{startsOf, requestsOf, SameDay, dayRefusal, dayRecords}
+use Rattle.dayfile.specs.Day.{dayStarts, dayRequests, SameDay, dayRefusal, dayRecords}
 use Rattle.dayfile.specs.File.{stopFrom, dayOf, readFile, readTable, dayBytes, writeFile}
 use Rattle.dayfile.specs.Legs.{legCount, leg, legTable, legMetres}
 use Rattle.dayfile.specs.Scan.{start, lengthRefusal}
@@ -27,11 +27,11 @@ use Rattle.dayfile.proofs.Answers.{File, file-read, accepted-file}
 use Rattle.dayfile.proofs.Digits.{records-back, bytes-back}
 use Rattle.dayfile.proofs.Indices.{laid, Laid, laid-at, laid-out}
 use Rattle.dayfile.proofs.Limits.{Tested, stops-hold, day-tested, day-accepted, day-laid}
-use Rattle.dayfile.proofs.Grammar.{Run, Read, run-ended, run-kept, run-fits, all-read}
+use Rattle.dayfile.proofs.Grammar.{Run, Read, run-ended, run-progress, run-fits, all-read}
 use Rattle.dayfile.proofs.Runs.{state, run-day}
 use Rattle.dayfile.proofs.codec.Laws.{length-encodeAll}
 use Rattle.dayfile.proofs.legs.Laws.{leg-count-most, between-up, between-down, between-self, between-both, table-at}
-use Rattle.dayfile.proofs.scan.Laws.{Kept, kept-start}
+use Rattle.dayfile.proofs.scan.Laws.{Progress, progress-start}
 
 -- the day and the table of an accepted file
 module _ (bs : List ℕ) (all : List Record) (t : State) (file : File bs all t) where
@@ -39,7 +39,7 @@ module _ (bs : List ℕ) (all : List Record) (t : State) (file : File bs all t) 
   n = t .second
 
   abbrev d : ℕ → ℕ → ℕ
-  d = distance (legTable n all)
+  d = metresOf (legTable n all)
 
   abbrev a : ℕ → ℕ
   a = stopFrom all (legCount n)
@@ -47,19 +47,19 @@ module _ (bs : List ℕ) (all : List Record) (t : State) (file : File bs all t) 
   abbrev b : ℕ → ℕ
   b = stopFrom all (legCount n + t .cranes)
 
-  starts-read : startsOf (dayOf all t) ≡ upTo (t .cranes) a
+  starts-read : dayStarts (dayOf all t) ≡ upTo (t .cranes) a
   unfolding dayOf
   starts-read = take-padded 16 (t .cranes) a 0
 
-  requests-read : requestsOf (dayOf all t) ≡ upTo (t .calls) b
+  requests-read : dayRequests (dayOf all t) ≡ upTo (t .calls) b
   unfolding dayOf
   requests-read = take-padded 256 (t .calls) b 0
 
   metres-read : (u v : ℕ) → u < v → v < n → d u v ≡ legMetres all u v
   metres-read u v p q = table-at all u v n (omega arith) q ∙ between-up all u v p
 
-  kept : Kept t (0 + length all)
-  kept = run-kept (file .run) 0 kept-start
+  kept : Progress t (0 + length all)
+  kept = run-progress (file .run) 0 progress-start
 
   read : Read all t
   read = all-read all (file .run)
@@ -90,7 +90,7 @@ module _ (bs : List ℕ) (all : List Record) (t : State) (file : File bs all t) 
       }))
 
 -- what is read passes the tests in memory
-pub file-accepted : (bs : List ℕ) → readFile bs .number ≡ 0 → dayRefusal (readFile bs .day) (distance (readTable bs)) ≡ 0
+pub file-accepted : (bs : List ℕ) → readFile bs .number ≡ 0 → dayRefusal (readFile bs .day) (metresOf (readTable bs)) ≡ 0
 unfolding dayOf
 file-accepted bs h =
     let t = accepted-file bs h in
@@ -98,7 +98,7 @@ file-accepted bs h =
 
 -- file → day → file
 pub file-round-trip : (bs out : List ℕ) → ((i : ℕ) → getD bs i 0 < 256) → readFile bs .number ≡ 0 → length bs ≤ length out
-    → writeFile (readFile bs .day) (distance (readTable bs)) out ≡ record { number = 0; length = length bs; buffer = splice 0 bs out }
+    → writeFile (readFile bs .day) (metresOf (readTable bs)) out ≡ record { number = 0; length = length bs; buffer = splice 0 bs out }
 unfolding writeFile lengthRefusal dayOf
 file-round-trip bs out bytes h le =
     let all : List Record = records bs in
@@ -112,7 +112,7 @@ file-round-trip bs out bytes h le =
 pub record Back (day : Day) (d : ℕ → ℕ → ℕ) (bs : List ℕ) : Type 0 where
   pub number : readFile bs .number ≡ 0
   pub same : SameDay (readFile bs .day) day
-  pub metres : (u v : ℕ) → u < day .places → v < day .places → distance (readTable bs) u v ≡ d u v
+  pub metres : (u v : ℕ) → u < day .places → v < day .places → metresOf (readTable bs) u v ≡ d u v
 
 length-accepted : (n : ℕ) → n ≤ 2288 → lengthRefusal (12 * n) ≡ 0
 unfolding lengthRefusal
@@ -120,7 +120,7 @@ length-accepted n h = rw (mul-mod-right 12 n, le-leb (12 * n) 27456 (omega arith
 
 -- records at their indices, with the metres of a metric, make its table
 table-back : (all : List Record) (d : ℕ → ℕ → ℕ) (n : ℕ) (a : ℕ → ℕ) (k : ℕ) (b : ℕ → ℕ) (m : ℕ) → Laid all d n a k b m → Metric n d
-    → (u v : ℕ) → u < n → v < n → distance (legTable n all) u v ≡ d u v
+    → (u v : ℕ) → u < n → v < n → metresOf (legTable n all) u v ≡ d u v
 table-back all d n a k b m h metric u v p q =
     table-at all u v n p q
     ∙ by-order u v
@@ -135,10 +135,10 @@ module _ (day : Day) (d : ℕ → ℕ → ℕ) (tests : Tested day d) (sixteen :
   abbrev to : ℕ → ℕ
   to j = getD (day .requests) j 0
 
-  starts-written : startsOf day ≡ upTo (day .cranes) from
+  starts-written : dayStarts day ≡ upTo (day .cranes) from
   starts-written = take-upTo (day .cranes) (day .starts) 0 (omega arith)
 
-  requests-written : requestsOf day ≡ upTo (day .calls) to
+  requests-written : dayRequests day ≡ upTo (day .calls) to
   requests-written = take-upTo (day .calls) (day .requests) 0 (omega arith)
 
   abbrev rs : List Record
@@ -150,16 +150,16 @@ module _ (day : Day) (d : ℕ → ℕ → ℕ) (tests : Tested day d) (sixteen :
   at : Laid rs d (day .places) from (day .cranes) to (day .calls)
   at = laid-at d (day .places) from (day .cranes) to (day .calls)
 
-  table : (u v : ℕ) → u < day .places → v < day .places → distance (legTable (day .places) rs) u v ≡ d u v
+  table : (u v : ℕ) → u < day .places → v < day .places → metresOf (legTable (day .places) rs) u v ≡ d u v
   table = table-back rs d (day .places) from (day .cranes) to (day .calls) at (tested-metric (day .places) d (tests .legs) (tests .triangles))
 
   written : File (encodeAll rs) rs end
   written =
       let run : Run start rs end = run-day day d from to starts-written requests-written tests in
-      let count : length rs ≤ 2288 = omega (arith, run-kept run 0 kept-start .index, leg-count-most (day .places) (tests .counts .places)) in
+      let count : length rs ≤ 2288 = omega (arith, run-progress run 0 progress-start .index, leg-count-most (day .places) (tests .counts .places)) in
       record {
         fits = rw (length-encodeAll rs) (length-accepted (length rs) count);
-        same = records-back rs (run-fits run 0 kept-start);
+        same = records-back rs (run-fits run 0 progress-start);
         run = run;
         triangles = rw (same-triangles (day .places) _ d table, tests .triangles);
       }

@@ -16,7 +16,7 @@ use Rattle.road.proofs.Table.{leg-metres}
 use Rattle.dayfile.specs.declared.Day.{Day}
 use Rattle.dayfile.specs.declared.codec.Record.{Record}
 use Rattle.dayfile.specs.declared.scan.State.{State}
-use Rattle.dayfile.specs.Day.{startsOf, requestsOf, stop}
+use Rattle.dayfile.specs.Day.{dayStarts, dayRequests, stop}
 use Rattle.dayfile.specs.Legs.{leg, legRecords}
 use Rattle.dayfile.specs.Scan.{start, afterLeg, after}
 use Rattle.dayfile.proofs.Grammar.{Run, done, more}
@@ -74,7 +74,7 @@ module _ (d : ℕ → ℕ → ℕ) {z : State} where
       (run-legs (suc n) (suc-le-suc zero-le) (le-of-lt le) (λ u v p q. rule u v p (le-of-lt (suc-le-suc q)))
       (run-row d (suc n) n (add-one n) le (λ u p. rule u (suc n) p (le-refl (suc (suc n)))) (rw add-one run)))
 
-module _ (day : Day) (d : ℕ → ℕ → ℕ) (a b : ℕ → ℕ) (starts : startsOf day ≡ upTo (day .cranes) a) (requests : requestsOf day ≡ upTo (day .calls) b) where
+module _ (day : Day) (d : ℕ → ℕ → ℕ) (a b : ℕ → ℕ) (starts : dayStarts day ≡ upTo (day .cranes) a) (requests : dayRequests day ≡ upTo (day .calls) b) where
   pub run-day : Tested day d → Run start (laid d (day .places) a (day .cranes) b (day .calls)) (state 0 (day .places) (day .cranes) (day .calls))
   unfolding after
   run-day h =

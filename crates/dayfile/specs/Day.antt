@@ -33,25 +33,25 @@ abbrev pub stopsRefusal : ℕ → List ℕ → ℕ
 stopsRefusal n stops = unless (stopsRule n stops) 5
 
 -- "Entries past the counts .. are ignored on the way in"
-abbrev pub startsOf : Day → List ℕ
-startsOf day = take (day .cranes) (day .starts)
+abbrev pub dayStarts : Day → List ℕ
+dayStarts day = take (day .cranes) (day .starts)
 
-abbrev pub requestsOf : Day → List ℕ
-requestsOf day = take (day .calls) (day .requests)
+abbrev pub dayRequests : Day → List ℕ
+dayRequests day = take (day .calls) (day .requests)
 
 -- "Two days are the same if their counts and the entries within them are."
 pub record SameDay (a b : Day) : Type 0 where
   pub places : a .places ≡ b .places
   pub cranes : a .cranes ≡ b .cranes
   pub calls : a .calls ≡ b .calls
-  pub starts : startsOf a ≡ startsOf b
-  pub requests : requestsOf a ≡ requestsOf b
+  pub starts : dayStarts a ≡ dayStarts b
+  pub requests : dayRequests a ≡ dayRequests b
 
 -- "In memory: 3, 6, 7, 4, 5 (starts, calls ..), 8"
 unfoldable pub dayRefusal : Day → (ℕ → ℕ → ℕ) → ℕ
 dayRefusal day d =
     countsRefusal (day .places) (day .cranes) (day .calls) then legsRefusal (day .places) d then
-    stopsRefusal (day .places) (startsOf day) then stopsRefusal (day .places) (requestsOf day) then
+    stopsRefusal (day .places) (dayStarts day) then stopsRefusal (day .places) (dayRequests day) then
     triangleRefusal (day .places) d
 
 -- the record of a crane or a call
@@ -60,4 +60,4 @@ stop kind p = record { kind = kind; pad = 0; first = p; second = 0; gap = 0; met
 
 -- "All legs come first .. Then come the cranes (starts), then the calls."
 unfoldable pub dayRecords : Day → (ℕ → ℕ → ℕ) → List Record
-dayRecords day d = legRecords d (day .places) ++ (map (stop 2) (startsOf day) ++ map (stop 3) (requestsOf day))
+dayRecords day d = legRecords d (day .places) ++ (map (stop 2) (dayStarts day) ++ map (stop 3) (dayRequests day))

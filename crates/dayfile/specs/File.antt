@@ -1,11 +1,11 @@
 -- What reading and writing a day file give, for all bytes, days and buffers.
-use Prim.Native.Nat.{ℕ, zero, suc, _+_}
+use Prim.Native.Nat.{ℕ, _+_}
 use mathlib.Core.List.{List}
 use lib.Dec.{leb}
 use lib.ListN.{length, getD, replicate}
 use Rattle.base.specs.Lists.{padded, splice}
-use Rattle.base.specs.Numbers.{numberOf, unless, _then_}
-use Rattle.road.specs.Table.{distance, triangleRefusal}
+use Rattle.base.specs.Numbers.{numberOf, unless, _then_, unlessRefused}
+use Rattle.road.specs.Table.{metresOf, triangleRefusal}
 use Rattle.dayfile.specs.declared.Day.{Day}
 use Rattle.dayfile.specs.declared.Reading.{Reading}
 use Rattle.dayfile.specs.declared.Written.{Written}
@@ -37,7 +37,7 @@ noDay = record { places = 0; cranes = 0; calls = 0; starts = replicate 16 0; req
 
 -- "then 8", with the index 0
 abbrev pub ways : List Record → Scan → Scan
-ways rs (counted s) = refuseAt 0 (triangleRefusal (s .second) (distance (legTable (s .second) rs))) (counted s)
+ways rs (counted s) = refuseAt 0 (triangleRefusal (s .second) (metresOf (legTable (s .second) rs))) (counted s)
 ways rs (refused n i) = refused n i
 
 -- "File: 1; then record by record ..; then the end: 3, 6; then 8."
@@ -77,16 +77,17 @@ pub record Output : Type 0 where
 abbrev pub written : Written → List ℕ → Output
 written r out = record { number = numberOf (r .verdict); length = r .length; buffer = out }
 
--- "written output past the result's length is unchanged"; refused, all of it is
-abbrev pub outputOf : ℕ → List ℕ → List ℕ → Output
-outputOf zero bs out = record { number = 0; length = length bs; buffer = splice 0 bs out }
-outputOf (suc n) bs out = record { number = suc n; length = 0; buffer = out }
-
 -- the file of a day
 abbrev pub dayBytes : Day → (ℕ → ℕ → ℕ) → List ℕ
 dayBytes day d = encodeAll (dayRecords day d)
 
 -- the same tests as in memory, then "output buffer shorter than the result"
+abbrev pub writeRefusal : Day → (ℕ → ℕ → ℕ) → List ℕ → ℕ
+writeRefusal day d out = dayRefusal day d then unless (leb (length (dayBytes day d)) (length out)) 11
+
+-- "written output past the result's length is unchanged"; refused, all of it is
 unfoldable pub writeFile : Day → (ℕ → ℕ → ℕ) → List ℕ → Output
 writeFile day d out =
-    outputOf (dayRefusal day d then unless (leb (length (dayBytes day d)) (length out)) 11) (dayBytes day d) out
+    unlessRefused (writeRefusal day d out)
+    (record { number = 0; length = length (dayBytes day d); buffer = splice 0 (dayBytes day d) out })
+    (λ n. record { number = n; length = 0; buffer = out })

@@ -1,11 +1,11 @@
 -- The records of a file, tested one after another. What has been read is kept as four numbers: the first and second place
 -- of the next leg, were one to come, and how many cranes and calls there were. Where no legs are missing the next leg's
 -- first place is 0, and its second place is the number of places: "1 more than the last second place, or 1 with no legs".
-use Prim.Native.Nat.{ℕ, zero, suc, _+_, _%_}
+use Prim.Native.Nat.{ℕ, _+_, _%_}
 use mathlib.Core.Bool.{Bool, cond}
 use mathlib.Core.List.{List, [], _∷_}
 use lib.Dec.{eqb, leb, ltb}
-use Rattle.base.specs.Numbers.{unless, _then_}
+use Rattle.base.specs.Numbers.{unless, _then_, unlessRefused}
 use Rattle.base.specs.Tests.{within}
 use Rattle.road.specs.Table.{metresRefusal}
 use Rattle.dayfile.specs.declared.codec.Record.{Record}
@@ -88,8 +88,7 @@ pub data Scan : Type 0 where
 
 -- a refusal with the index that goes with it, else what comes after
 abbrev pub refuseAt : ℕ → ℕ → Scan → Scan
-refuseAt i zero rest = rest
-refuseAt i (suc n) rest = refused (suc n) i
+refuseAt i n rest = unlessRefused n rest (λ m. refused m i)
 
 -- "record by record, first to last": the record's index from 0; "at the end, the count of records"
 unfoldable pub scan : ℕ → State → List Record → Scan

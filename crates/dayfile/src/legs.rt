@@ -8,7 +8,7 @@ ghost use mathlib.Core.Path.{_≡_};
 ghost use Prim.Native.Nat.{ℕ, _+_, _*_, _<_, _≤_};
 ghost use lib.ListN.{length};
 ghost use Rattle.base.specs.Lists.{upTo, splice};
-ghost use Rattle.road.specs.Table.{distance};
+ghost use Rattle.road.specs.Table.{metresOf};
 ghost use Rattle.dayfile.specs.Codec.{records, encodeAll};
 ghost use Rattle.dayfile.specs.Legs.{legCount, leg, legMetres, between, legRow, legTable, legRecords};
 
@@ -77,7 +77,7 @@ pub(crate) fn table(bytes: &[u8], places: usize) -> Table
 // The records of the legs to v from the earlier places, into the buffer from their own place in the file.
 fn put_to(table: &Table, v: usize, out: &mut [u8])
     requires { ⌜ (v < 64) × (12 * (legCount v + v) ≤ length (now out)) ⌝ }
-    ensures { λ _. ⌜ now (out .exit) ≡ splice (12 * legCount v) (encodeAll (upTo v (λ u. leg u v (distance (now (table .entry)) u v)))) (now (out .entry)) ⌝ }
+    ensures { λ _. ⌜ now (out .exit) ≡ splice (12 * legCount v) (encodeAll (upTo v (λ u. leg u v (metresOf (now (table .entry)) u v)))) (now (out .entry)) ⌝ }
 {
     let from = count(v);
     let mut u = 0;
@@ -98,7 +98,7 @@ fn put_to(table: &Table, v: usize, out: &mut [u8])
 // The records of all legs, into the front of the buffer.
 pub(crate) fn put(table: &Table, places: usize, out: &mut [u8])
     requires { ⌜ (places ≤ 64) × (12 * legCount places ≤ length (now out)) ⌝ }
-    ensures { λ _. ⌜ now (out .exit) ≡ splice 0 (encodeAll (legRecords (distance (now (table .entry))) places)) (now (out .entry)) ⌝ }
+    ensures { λ _. ⌜ now (out .exit) ≡ splice 0 (encodeAll (legRecords (metresOf (now (table .entry))) places)) (now (out .entry)) ⌝ }
 {
     let mut v = 0;
     while v < places {

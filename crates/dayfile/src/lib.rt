@@ -13,7 +13,7 @@ ghost use Prim.Native.Nat.{_+_, _*_, _≤_};
 ghost use lib.ListN.{length};
 ghost use Rattle.base.specs.Lists.{splice};
 ghost use Rattle.base.specs.Numbers.{numberOf};
-ghost use Rattle.road.specs.Table.{distance};
+ghost use Rattle.road.specs.Table.{metresOf};
 ghost use Rattle.dayfile.specs.Day.{countsRefusal, stopsRefusal, dayRefusal};
 ghost use Rattle.dayfile.specs.File.{answer, refusal, readFile, readTable, written, dayBytes, writeFile};
 ghost use Rattle.dayfile.specs.Legs.{legCount};
@@ -128,7 +128,7 @@ impl Day {
 
     // The whole test of a day in memory: 3, 6, 7, 4, 5, 8.
     pub fn test(self, table: Table) -> Verdict
-        ensures { λ r. ⌜ numberOf r ≡ dayRefusal self (distance table) ⌝ }
+        ensures { λ r. ⌜ numberOf r ≡ dayRefusal self (metresOf table) ⌝ }
     {
         let places = self.places;
         let cranes = self.cranes;
@@ -156,7 +156,7 @@ impl Day {
 
     // The day's file, into the front of a lent buffer; the same test, then 11 where the buffer is too short.
     pub fn write(self, table: Table, out: &mut [u8]) -> Written
-        ensures { λ r. ⌜ written r (now (out .exit)) ≡ writeFile self (distance table) (now (out .entry)) ⌝ }
+        ensures { λ r. ⌜ written r (now (out .exit)) ≡ writeFile self (metresOf table) (now (out .entry)) ⌝ }
     {
         let tested = self.test(table);
         let Verdict::Accepted = tested else {
@@ -201,7 +201,7 @@ fn refused(verdict: Verdict, index: usize) -> Reading
 // The records of a day, into the front of the buffer.
 fn put(day: Day, table: &Table, out: &mut [u8])
     requires { ⌜ (day .places ≤ 64) × ((day .cranes ≤ 16) × ((day .calls ≤ 256) × (12 * (legCount (day .places) + day .cranes + day .calls) ≤ length (now out)))) ⌝ }
-    ensures { λ _. ⌜ now (out .exit) ≡ splice 0 (dayBytes day (distance (now (table .entry)))) (now (out .entry)) ⌝ }
+    ensures { λ _. ⌜ now (out .exit) ≡ splice 0 (dayBytes day (metresOf (now (table .entry)))) (now (out .entry)) ⌝ }
 {
     let places = day.places;
     let cranes = day.cranes;

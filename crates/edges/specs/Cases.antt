@@ -5,7 +5,7 @@ use mathlib.Core.List.{List, [], _∷_, _++_, map}
 use lib.Dec.{eqb}
 use lib.ListN.{length, replicate}
 use Rattle.base.specs.Lists.{upTo}
-use Rattle.road.specs.Table.{distance, tableRefusal}
+use Rattle.road.specs.Table.{metresOf, tableRefusal}
 use Rattle.dayfile.specs.File.{readFile}
 use Rattle.workfunction.specs.Choice.{moveSum}
 use Rattle.book.specs.Book.{startsOf, standsOf, requestsOf, freshOf}
@@ -104,7 +104,7 @@ array n z l = l ++ replicate (n - length l) z
 
 -- the metres of a road table, by the rows of its places
 abbrev metres : List (List ℕ) → ℕ → ℕ → ℕ
-metres rows = distance (array 64 (replicate 64 0) (map (array 64 0) rows))
+metres rows = metresOf (array 64 (replicate 64 0) (map (array 64 0) rows))
 
 -- the book that is opened for a day without calls
 abbrev opened : List (List ℕ) → List ℕ → Book

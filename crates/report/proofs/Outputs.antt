@@ -12,7 +12,7 @@ use native.Mathlib.Nat.{zero-add}
 use native.Mathlib.Omega.{arith}
 use Rattle.base.specs.Lists.{splice}
 use Rattle.base.specs.Numbers.{unless}
-use Rattle.road.specs.Table.{distance}
+use Rattle.road.specs.Table.{metresOf}
 use Rattle.dayfile.specs.declared.Day.{Day}
 use Rattle.dayfile.specs.Day.{dayRefusal}
 use Rattle.dayfile.specs.File.{Answer, readFile, readTable, Output, outputOf}
@@ -64,12 +64,12 @@ module _ (file : List ℕ) (a : Answer) (e : a ≡ readFile file) where
   file-refused n q h = rw (q, ← e) (refused-text (a .number) (a .index) _ h)
 
   pub file-served : (table : List (List ℕ)) → table ≡ readTable file → a .number ≡ 0
-      → figuresText (servedDay (a .day) (distance table)) ≡ printOf file
+      → figuresText (servedDay (a .day) (metresOf table)) ≡ printOf file
   unfolding printOf
   file-served table q z = rw (q, ← e, z)
 
 -- the day of an accepted file is served: a file's own test leaves nothing for the day's to refuse
-pub accepted-served : (file : List ℕ) → readFile file .number ≡ 0 → servedDay (readFile file .day) (distance (readTable file)) .number ≡ 0
+pub accepted-served : (file : List ℕ) → readFile file .number ≡ 0 → servedDay (readFile file .day) (metresOf (readTable file)) .number ≡ 0
 unfolding servedDay
 accepted-served file h = rw (file-accepted file h)
 

@@ -4,7 +4,7 @@ use mathlib.Core.List.{List}
 use lib.Dec.{leb}
 use lib.ListN.{length, getD}
 use Rattle.base.specs.Numbers.{unless}
-use Rattle.road.specs.Table.{distance}
+use Rattle.road.specs.Table.{metresOf}
 use Rattle.dayfile.specs.File.{readFile, readTable, Output, outputOf}
 use Rattle.book.specs.Serving.{DayFigures, servedDay}
 use Rattle.report.specs.Text.{refusedLine, dayText}
@@ -23,7 +23,7 @@ figuresText s =
 -- the file is read, then the day that it holds is served
 unfoldable pub printOf : List ℕ → List ℕ
 printOf file =
-    textOr (readFile file .number) (readFile file .index) (figuresText (servedDay (readFile file .day) (distance (readTable file))))
+    textOr (readFile file .number) (readFile file .index) (figuresText (servedDay (readFile file .day) (metresOf (readTable file))))
 
 -- 11: "output buffer shorter than the result"
 unfoldable pub reportOf : List ℕ → List ℕ → Output

@@ -11,7 +11,7 @@ use road::Table;
 ghost use mathlib.Core.Path.{_≡_};
 ghost use Prim.Native.Nat.{_≤_};
 ghost use lib.ListN.{length};
-ghost use Rattle.road.specs.Table.{distance};
+ghost use Rattle.road.specs.Table.{metresOf};
 ghost use Rattle.dayfile.specs.File.{written};
 ghost use Rattle.book.specs.Serving.{servedDay};
 ghost use Rattle.report.specs.Text.{Put};
@@ -57,7 +57,7 @@ fn print(file: &[u8], out: &mut [u8]) -> usize
 // The print of a day, into the front of the buffer; the index behind it.
 fn print_day(day: Day, table: Table, out: &mut [u8]) -> usize
     requires { ⌜ 32768 ≤ length (now out) ⌝ }
-    ensures { λ r. ⌜ Put (figuresText (servedDay day (distance table))) (now (out .entry)) 0 (now (out .exit)) r ⌝ }
+    ensures { λ r. ⌜ Put (figuresText (servedDay day (metresOf table))) (now (out .entry)) 0 (now (out .exit)) r ⌝ }
 {
     let served = Book::serve_day(day, table);
     let verdict = served.verdict;

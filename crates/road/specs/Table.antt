@@ -8,8 +8,8 @@ use Rattle.base.specs.Numbers.{unless, _then_}
 use Rattle.base.specs.Tests.{within, allBelow}
 
 -- "d(u,w) the metres from u to w": "one row for each place, one column for each place"
-abbrev pub distance : List (List ℕ) → ℕ → ℕ → ℕ
-distance t u w = getD (getD t u []) w 0
+abbrev pub metresOf : List (List ℕ) → ℕ → ℕ → ℕ
+metresOf t u w = getD (getD t u []) w 0
 
 -- what is read off a table for any two numbers: 0 past its 64 rows and columns
 unfoldable pub entry : (ℕ → ℕ → ℕ) → ℕ → ℕ → ℕ

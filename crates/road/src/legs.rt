@@ -7,12 +7,12 @@ ghost use mathlib.Core.Path.{_≡_};
 ghost use Prim.Native.Nat.{_<_, _≤_};
 ghost use Rattle.base.specs.Numbers.{numberOf, unless};
 ghost use Rattle.base.specs.Tests.{allBelow};
-ghost use Rattle.road.specs.Table.{distance, legRule, legsRefusal};
+ghost use Rattle.road.specs.Table.{metresOf, legRule, legsRefusal};
 
 // 4 unless the leg from u to v keeps its rule.
 fn test_leg(table: &Table, u: usize, v: usize) -> Verdict
     requires { ⌜ (u < 64) × (v < 64) ⌝ }
-    ensures { λ r. ⌜ numberOf r ≡ unless (legRule (distance (now (table .entry))) u v) 4 ⌝ }
+    ensures { λ r. ⌜ numberOf r ≡ unless (legRule (metresOf (now (table .entry))) u v) 4 ⌝ }
 {
     let there = table[u][v];
     if u == v {
@@ -30,7 +30,7 @@ fn test_leg(table: &Table, u: usize, v: usize) -> Verdict
 // 4 unless every leg from u keeps its rule.
 fn test_from(table: &Table, places: usize, u: usize) -> Verdict
     requires { ⌜ (places ≤ 64) × (u < 64) ⌝ }
-    ensures { λ r. ⌜ numberOf r ≡ unless (allBelow places (legRule (distance (now (table .entry))) u)) 4 ⌝ }
+    ensures { λ r. ⌜ numberOf r ≡ unless (allBelow places (legRule (metresOf (now (table .entry))) u)) 4 ⌝ }
 {
     let mut v = 0;
     while v < places {
@@ -46,7 +46,7 @@ fn test_from(table: &Table, places: usize, u: usize) -> Verdict
 // 4 unless every leg keeps its rule.
 pub(crate) fn test(table: &Table, places: usize) -> Verdict
     requires { ⌜ places ≤ 64 ⌝ }
-    ensures { λ r. ⌜ numberOf r ≡ legsRefusal places (distance (now (table .entry))) ⌝ }
+    ensures { λ r. ⌜ numberOf r ≡ legsRefusal places (metresOf (now (table .entry))) ⌝ }
 {
     let mut u = 0;
     while u < places {

@@ -7,7 +7,7 @@ use base::Refusal;
 use base::Verdict;
 ghost use mathlib.Core.Path.{_≡_};
 ghost use Rattle.base.specs.Numbers.{numberOf, _then_};
-ghost use Rattle.road.specs.Table.{distance, entry, placesRefusal, metresRefusal, legsRefusal, triangleRefusal, tableRefusal};
+ghost use Rattle.road.specs.Table.{metresOf, entry, placesRefusal, metresRefusal, legsRefusal, triangleRefusal, tableRefusal};
 
 // The metres from each place to each place, one row for each place. A table goes with its number of places, and
 // entries at or past that number are ignored.
@@ -25,7 +25,7 @@ impl Road {
 
     // The metres from one place to another; 0 past the rows and columns of the table.
     pub fn metres(table: &Table, from: usize, to: usize) -> u32
-        ensures { λ r. ⌜ r ≡ entry (distance (now (table .entry))) from to ⌝ }
+        ensures { λ r. ⌜ r ≡ entry (metresOf (now (table .entry))) from to ⌝ }
     {
         if Road::PLACES <= from {
             return 0;
@@ -64,7 +64,7 @@ impl Road {
 
     // 3, then 4 unless every leg between the places keeps its rule.
     pub fn test_legs(places: usize, table: Table) -> Verdict
-        ensures { λ r. ⌜ numberOf r ≡ placesRefusal places then legsRefusal places (distance table) ⌝ }
+        ensures { λ r. ⌜ numberOf r ≡ placesRefusal places then legsRefusal places (metresOf table) ⌝ }
     {
         let counted = Road::test_places(places);
         let Verdict::Accepted = counted else {
@@ -75,7 +75,7 @@ impl Road {
 
     // 3, then 8 unless every three places keep the triangle rule.
     pub fn test_triangles(places: usize, table: Table) -> Verdict
-        ensures { λ r. ⌜ numberOf r ≡ placesRefusal places then triangleRefusal places (distance table) ⌝ }
+        ensures { λ r. ⌜ numberOf r ≡ placesRefusal places then triangleRefusal places (metresOf table) ⌝ }
     {
         let counted = Road::test_places(places);
         let Verdict::Accepted = counted else {
@@ -86,7 +86,7 @@ impl Road {
 
     // The whole test of a table: 3, then 4, then 8.
     pub fn test(places: usize, table: Table) -> Verdict
-        ensures { λ r. ⌜ numberOf r ≡ tableRefusal places (distance table) ⌝ }
+        ensures { λ r. ⌜ numberOf r ≡ tableRefusal places (metresOf table) ⌝ }
     {
         let counted = Road::test_places(places);
         let Verdict::Accepted = counted else {

@@ -8,7 +8,7 @@ use lib.IntN.{ℤ, pos, negℤ}
 use lib.ListN.{length, getD}
 use Rattle.base.specs.Lists.{upTo}
 use Rattle.base.specs.Tests.{allBelow}
-use Rattle.workfunction.specs.Lists.{least, inserted, orders, sumBelow, keep, leastBy, choices}
+use Rattle.workfunction.specs.Lists.{minimum, insertions, permutations, sumBelow, filter, leastBy, sections}
 use Rattle.workfunction.specs.Position.{positions, pairing, distance}
 use Rattle.workfunction.specs.Movement.{contains, movements, cost, work, floor}
 use Rattle.workfunction.specs.Choice.{preferred, drive, moveSum, choice}
@@ -55,22 +55,22 @@ unfoldable pub told : Day → List Served × ℕ
 told (day _ _ _ lines lowest) = (lines, lowest)
 
 pub days-agree : map found days ≡ map told days
-unfolding days found told upTo least inserted orders keep leastBy choices positions pairing distance contains movements cost work floor flatMap headD drive moveSum preferred choice servedBy serve
+unfolding days found told upTo minimum insertions permutations filter leastBy sections positions pairing distance contains movements cost work floor flatMap headD drive moveSum preferred choice servedBy serve
 days-agree = refl
 
 -- "both give 20"
 pub equal-sums : map (moveSum (metres (three 10 20 10)) 3 (0 ∷ 2 ∷ []) [] (0 ∷ 2 ∷ []) 1) (0 ∷ 1 ∷ []) ≡ 20 ∷ 20 ∷ []
-unfolding upTo least inserted orders keep choices positions pairing distance contains movements cost work flatMap drive moveSum
+unfolding upTo minimum insertions permutations filter sections positions pairing distance contains movements cost work flatMap drive moveSum
 equal-sums = refl
 
 -- where steps out of stands count: starts 2, 0, 0 and calls 1 and 0 leave the cranes at 1, 0, 0, and a call at 2 is crane 1's
 pub out-of-stands : choice (metres (three 3 1 3)) 3 (2 ∷ 0 ∷ 0 ∷ []) (1 ∷ 0 ∷ []) (1 ∷ 0 ∷ 0 ∷ []) 2 ≡ 1
-unfolding upTo least inserted orders keep leastBy choices positions pairing distance contains movements cost work flatMap headD drive moveSum preferred choice
+unfolding upTo minimum insertions permutations filter leastBy sections positions pairing distance contains movements cost work flatMap headD drive moveSum preferred choice
 out-of-stands = refl
 
 -- "With no calls [..] w(stands) is the distance from starts to stands": from 0 and 2 to 1 and 0 one crane moves, by 15
 pub no-calls : work (metres (three 10 20 15)) 3 (0 ∷ 2 ∷ []) [] (1 ∷ 0 ∷ []) ≡ 15
-unfolding upTo least inserted orders keep choices positions pairing distance contains movements cost work flatMap
+unfolding upTo minimum insertions permutations filter sections positions pairing distance contains movements cost work flatMap
 no-calls = refl
 
 -- ---- plans

@@ -9,7 +9,7 @@ use native.Mathlib.Nat.{zero-add, le-antisymm, le-refl, le-trans}
 use native.Mathlib.Omega.{arith}
 use Rattle.base.specs.Lists.{upTo}
 use Rattle.base.specs.Metric.{Metric}
-use Rattle.workfunction.specs.Lists.{keep, leastBy}
+use Rattle.workfunction.specs.Lists.{filter, leastBy}
 use Rattle.workfunction.specs.Position.{Position}
 use Rattle.workfunction.specs.Movement.{Instance, Serves}
 use Rattle.workfunction.specs.Choice.{preferred, moved, drive, moveSum, choice, rearrangementSum}
@@ -28,12 +28,12 @@ ascends-from : {b c : ℕ} {l : List ℕ} → c ≤ b → Ascends b l → Ascend
 ascends-from h none = none
 ascends-from h (next g more) = next (le-trans h g) more
 
-ascends-keep : (P : ℕ → Bool) {b : ℕ} {l : List ℕ} → Ascends b l → Ascends b (keep P l)
-unfolding keep
-ascends-keep P none = none
-ascends-keep P (next {a} {b} {l} h more) = go (P a) (ascends-keep P more)
+ascends-filter : (P : ℕ → Bool) {b : ℕ} {l : List ℕ} → Ascends b l → Ascends b (filter P l)
+unfolding filter
+ascends-filter P none = none
+ascends-filter P (next {a} {b} {l} h more) = go (P a) (ascends-filter P more)
   where
-    go : (t : Bool) → Ascends (suc a) (keep P l) → Ascends b (cond t (a ∷ keep P l) (keep P l))
+    go : (t : Bool) → Ascends (suc a) (filter P l) → Ascends b (cond t (a ∷ filter P l) (filter P l))
     go true rest = next h rest
     go false rest = ascends-from (omega arith) rest
 
@@ -85,7 +85,7 @@ module _ (f g : ℕ → ℕ) (k : ℕ) (some : 0 < k) where
   pub preferred-number : (t : ℕ) → t < k → f t ≡ f (preferred f g k) → g t ≡ g (preferred f g k) → preferred f g k ≤ t
   unfolding preferred leastBy
   preferred-number t h e q =
-      head-lowest (ascends-keep _ (ascends-keep _ (ascends-upTo k 0 (λ s. s) (λ i. sym (zero-add i)))))
+      head-lowest (ascends-filter _ (ascends-filter _ (ascends-upTo k 0 (λ s. s) (λ i. sym (zero-add i)))))
       (leastBy-in g (alike t h e) (λ u m. rw q (in-leastBy g _ best .1 u m)))
 
   pub preferred-only : (s : ℕ) → s < k → ((t : ℕ) → t < k → f s ≤ f t) → ((t : ℕ) → t < k → f t ≡ f s → g s ≤ g t)

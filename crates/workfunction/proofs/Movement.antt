@@ -13,10 +13,10 @@ use lib.ListN.{length, take, drop, replicate, length-replicate, take-append-drop
 use native.Mathlib.Nat.{not-suc-le-zero, le-antisymm, le-trans}
 use native.Mathlib.Omega.{arith}
 use Rattle.base.specs.Metric.{Metric}
-use Rattle.workfunction.specs.Lists.{least, keep, choices}
+use Rattle.workfunction.specs.Lists.{minimum, filter, sections}
 use Rattle.workfunction.specs.Position.{Position, positions, distance}
 use Rattle.workfunction.specs.Movement.{Instance, Serves, Movement, contains, movements, cost, work, floor}
-use Rattle.workfunction.proofs.Lists.{least-attained, least-below, keep-in, in-keep, choices-in, in-choices}
+use Rattle.workfunction.proofs.Lists.{minimum-attained, minimum-below, filter-in, in-filter, sections-in, in-sections}
 use Rattle.workfunction.proofs.Position.{distance-right, distance-self, distance-triangle, positions-in, in-positions}
 
 contains-yes : {r : ℕ} {C : List ℕ} → List·Memᴰ r C → contains r C ≡ true
@@ -36,22 +36,22 @@ contains-in r (p ∷ C) h = go (eqb r p) refl h (contains-in r C)
 -- movements has just the movements
 movements-in : (n k : ℕ) {calls : List ℕ} {M : List (List ℕ)} → Movement n k calls M → List·Memᴰ M (movements n k calls)
 unfolding movements
-movements-in n k m = choices-in (rows m)
+movements-in n k m = sections-in (rows m)
   where
     rows : {calls : List ℕ} {M : List (List ℕ)} → Movement n k calls M
-        → Forall₂ (λ P (l : List (List ℕ)). List·Memᴰ P l) M (map (λ r. keep (contains r) (positions n k)) calls)
+        → Forall₂ (λ P (l : List (List ℕ)). List·Memᴰ P l) M (map (λ r. filter (contains r) (positions n k)) calls)
     rows Forall₂·nil = Forall₂·nil
-    rows (Forall₂·cons {a = r} h more) = Forall₂·cons (keep-in (contains r) (contains-yes (h .1)) (positions-in n (h .0))) (rows more)
+    rows (Forall₂·cons {a = r} h more) = Forall₂·cons (filter-in (contains r) (contains-yes (h .1)) (positions-in n (h .0))) (rows more)
 
 in-movements : (n k : ℕ) (calls : List ℕ) {M : List (List ℕ)} → List·Memᴰ M (movements n k calls) → Movement n k calls M
 unfolding movements
-in-movements n k calls m = rows calls (in-choices (map (λ r. keep (contains r) (positions n k)) calls) m)
+in-movements n k calls m = rows calls (in-sections (map (λ r. filter (contains r) (positions n k)) calls) m)
   where
     rows : (calls : List ℕ) {M : List (List ℕ)}
-        → Forall₂ (λ P (l : List (List ℕ)). List·Memᴰ P l) M (map (λ r. keep (contains r) (positions n k)) calls) → Movement n k calls M
+        → Forall₂ (λ P (l : List (List ℕ)). List·Memᴰ P l) M (map (λ r. filter (contains r) (positions n k)) calls) → Movement n k calls M
     rows [] Forall₂·nil = Forall₂·nil
     rows (r ∷ calls) (Forall₂·cons h more) =
-        let out = in-keep (contains r) (positions n k) h in
+        let out = in-filter (contains r) (positions n k) h in
         Forall₂·cons (in-positions n k (out .0), contains-in r _ (out .1)) (rows calls more)
 
 -- the cost with the end in another order, and with a way on to another end
@@ -89,12 +89,12 @@ module _ (d : ℕ → ℕ → ℕ) {n : ℕ} {starts calls : List ℕ} (day : In
   work-attained C =
       let some = some-movement n (length starts) calls (day .crane) (λ r m. day .called m) in
       let all = movements n (length starts) calls in
-      let best = least-attained (λ M. cost d starts M C) all (movements-in n (length starts) (some .1)) in
+      let best = minimum-attained (λ M. cost d starts M C) all (movements-in n (length starts) (some .1)) in
       (best .0, in-movements n (length starts) calls (best .1), best .2)
 
   pub work-below : (C : List ℕ) {M : List (List ℕ)} → Movement n (length starts) calls M → work d n starts calls C ≤ cost d starts M C
   unfolding work
-  work-below C m = least-below (λ M. cost d starts M C) (movements n (length starts) calls) (movements-in n (length starts) m)
+  work-below C m = minimum-below (λ M. cost d starts M C) (movements n (length starts) calls) (movements-in n (length starts) m)
 
   -- w is the same for every order of C
   order-below : (C X : List ℕ) → List·Permᴰ C X → work d n starts calls X ≤ work d n starts calls C
@@ -117,7 +117,7 @@ module _ (d : ℕ → ℕ → ℕ) {n : ℕ} {starts calls : List ℕ} (day : In
       × (cost d starts M C ≡ floor d n starts calls)
   unfolding floor
   floor-attained =
-      let end = least-attained (work d n starts calls) (positions n (length starts)) (positions-in n (day .started)) in
+      let end = minimum-attained (work d n starts calls) (positions n (length starts)) (positions-in n (day .started)) in
       let best = work-attained (end .0) in
       (end .0, best .0, in-positions n (length starts) (end .1), best .1, best .2 ∙ end .2)
 
@@ -125,13 +125,13 @@ module _ (d : ℕ → ℕ → ℕ) {n : ℕ} {starts calls : List ℕ} (day : In
       → floor d n starts calls ≤ cost d starts M C
   unfolding floor
   floor-below {C} c m =
-      le-trans (least-below (work d n starts calls) (positions n (length starts)) (positions-in n c)) (work-below C m)
+      le-trans (minimum-below (work d n starts calls) (positions n (length starts)) (positions-in n c)) (work-below C m)
 
 -- ---- no calls
 
 -- w is the distance from the starts, and the floor is 0
 pub work-none : (d : ℕ → ℕ → ℕ) (n : ℕ) (starts C : List ℕ) → work d n starts [] C ≡ distance d starts C
-unfolding work movements choices least cost
+unfolding work movements sections minimum cost
 work-none d n starts C = refl
 
 pub floor-none : {n : ℕ} {d : ℕ → ℕ → ℕ} {starts : List ℕ} → Metric n d → Instance n starts [] → floor d n starts [] ≡ 0

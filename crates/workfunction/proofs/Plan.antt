@@ -43,7 +43,7 @@ pub record Plan (k N : ℕ) (f : ℕ → ℕ) : Type 0 where
 pub plan-facts : (k N : ℕ) (f : ℕ → ℕ) → planRule k N f ≡ true → Plan k N f
 unfolding planRule followersRule onceRule
 plan-facts k N f h =
-    let rules = and-eq-true-iff (followersRule k N f) (onceRule k N f) .0 h in
+    let rules = and-eq-true-iff (followersRule k N f) (onceRule N f) .0 h in
     let each : (p : ℕ) → p < N → (ltb (f p) N ≡ true) × (mayFollow k p (f p) ≡ true) =
     λ p lt. and-eq-true-iff (ltb (f p) N) (mayFollow k p (f p)) .0 (below-at _ N (rules .0) p lt)
     in

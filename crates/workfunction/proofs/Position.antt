@@ -12,10 +12,10 @@ use native.Mathlib.Nat.{zero-add, not-suc-le-zero, le-of-suc-le-suc, le-antisymm
 use native.Mathlib.Omega.{arith}
 use Rattle.base.specs.Lists.{upTo}
 use Rattle.base.specs.Metric.{Metric}
-use Rattle.workfunction.specs.Lists.{orders}
+use Rattle.workfunction.specs.Lists.{permutations}
 use Rattle.workfunction.specs.Position.{Position, positions, pairing, distance}
-use Rattle.workfunction.proofs.Lists.{least-attained, least-below, in-orders, orders-self, orders-in}
-use Rattle.workfunction.proofs.Lists.{choices-in, in-choices, upTo-in, in-upTo}
+use Rattle.workfunction.proofs.Lists.{minimum-attained, minimum-below, in-permutations, permutations-self, permutations-in}
+use Rattle.workfunction.proofs.Lists.{sections-in, in-sections, upTo-in, in-upTo}
 use Rattle.workfunction.proofs.Sums.{length-order, in-order, in-set, entry-in}
 
 -- laws of one pairing
@@ -88,12 +88,12 @@ module _ (d : ℕ → ℕ → ℕ) where
   pub distance-attained : (A B : List ℕ) → (X : List ℕ) × List·Permᴰ B X × (pairing d A X ≡ distance d A B)
   unfolding distance
   distance-attained A B =
-      let best = least-attained (pairing d A) (orders B) (orders-self B) in
-      (best .0, in-orders B (best .1), best .2)
+      let best = minimum-attained (pairing d A) (permutations B) (permutations-self B) in
+      (best .0, in-permutations B (best .1), best .2)
 
   pub distance-below : (A B : List ℕ) {X : List ℕ} → List·Permᴰ B X → distance d A B ≤ pairing d A X
   unfolding distance
-  distance-below A B p = ∥∥₁-elim (orders-in B ∣ p ∣₁) le-prop (λ m. least-below (pairing d A) (orders B) m)
+  distance-below A B p = ∥∥₁-elim (permutations-in B ∣ p ∣₁) le-prop (λ m. minimum-below (pairing d A) (permutations B) m)
 
   -- and by an order of the first list, the second left as it is
   pub attained-left : (A B : List ℕ) → length A ≡ length B → (X : List ℕ) × List·Permᴰ A X × (pairing d X B ≡ distance d A B)
@@ -191,7 +191,7 @@ module _ {n : ℕ} {d : ℕ → ℕ → ℕ} (laws : Metric n d) where
 -- positions has just the positions
 pub positions-in : (n : ℕ) {k : ℕ} {C : List ℕ} → Position n k C → List·Memᴰ C (positions n k)
 unfolding positions
-positions-in n {k} {C} c = choices-in (rows k C (c .cranes) (λ p m. c .placed m))
+positions-in n {k} {C} c = sections-in (rows k C (c .cranes) (λ p m. c .placed m))
   where
     rows : (k : ℕ) (C : List ℕ) → length C ≡ k → ((p : ℕ) → List·Memᴰ p C → p < n)
         → Forall₂ (λ p (l : List ℕ). List·Memᴰ p l) C (replicate k (upTo n (λ p. p)))
@@ -203,7 +203,7 @@ positions-in n {k} {C} c = choices-in (rows k C (c .cranes) (λ p m. c .placed m
 
 pub in-positions : (n k : ℕ) {C : List ℕ} → List·Memᴰ C (positions n k) → Position n k C
 unfolding positions
-in-positions n k m = rows k (in-choices (replicate k (upTo n (λ p. p))) m)
+in-positions n k m = rows k (in-sections (replicate k (upTo n (λ p. p))) m)
   where
     rows : (k : ℕ) {C : List ℕ} → Forall₂ (λ p (l : List ℕ). List·Memᴰ p l) C (replicate k (upTo n (λ p. p))) → Position n k C
     rows zero Forall₂·nil = record { cranes = refl; placed = λ m. absurd (List·Memᴰ·not-nil m) }

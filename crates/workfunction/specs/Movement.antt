@@ -4,7 +4,7 @@ use mathlib.Core.Bool.{Bool, false, _||_}
 use mathlib.Core.List.{List, [], _∷_, map, List·Memᴰ, Forall₂}
 use lib.Dec.{eqb}
 use lib.ListN.{length}
-use Rattle.workfunction.specs.Lists.{least, keep, choices}
+use Rattle.workfunction.specs.Lists.{minimum, filter, sections}
 use Rattle.workfunction.specs.Position.{Position, positions, distance}
 
 -- What a book starts from and has been asked: at least one crane, each start and each call a place of a table of n.
@@ -29,7 +29,7 @@ contains r (p ∷ C) = eqb r p || contains r C
 
 -- every movement
 unfoldable pub movements : ℕ → ℕ → List ℕ → List (List (List ℕ))
-movements n k calls = choices (map (λ r. keep (contains r) (positions n k)) calls)
+movements n k calls = sections (map (λ r. filter (contains r) (positions n k)) calls)
 
 module _ (d : ℕ → ℕ → ℕ) where
   -- "A movement costs the sum of the distances from each position to the next": from A through M to C.
@@ -40,8 +40,8 @@ module _ (d : ℕ → ℕ → ℕ) where
   module _ (n : ℕ) (starts calls : List ℕ) where
     -- "The work function w(C) of a book is the least cost of all its movements that end at C."
     unfoldable pub work : List ℕ → ℕ
-    work C = least (map (λ M. cost starts M C) (movements n (length starts) calls))
+    work C = minimum (map (λ M. cost starts M C) (movements n (length starts) calls))
 
     -- "'floor' is the smallest w(C) over all C."
     unfoldable pub floor : ℕ
-    floor = least (map work (positions n (length starts)))
+    floor = minimum (map work (positions n (length starts)))

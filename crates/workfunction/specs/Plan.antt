@@ -18,18 +18,18 @@ mayFollow k p b = ltb b k || ltb p b
 unfoldable pub follows : (ℕ → ℕ) → ℕ → ℕ → ℕ
 follows f b p = cond (eqb (f p) b) 1 0
 
+-- "Every call and every stand follows exactly one stop."
+unfoldable pub onceRule : ℕ → (ℕ → ℕ) → Bool
+onceRule N f = allBelow N (λ b. eqb (sumBelow N (follows f b)) 1)
+
 module _ (k N : ℕ) (f : ℕ → ℕ) where
   -- "Each stop has one follower": one that may follow it
   unfoldable pub followersRule : Bool
   followersRule = allBelow N (λ p. ltb (f p) N && mayFollow k p (f p))
 
-  -- "Every call and every stand follows exactly one stop."
-  unfoldable pub onceRule : Bool
-  onceRule = allBelow N (λ b. eqb (sumBelow N (follows f b)) 1)
-
   -- f is a plan: f p is the follower of p
   unfoldable pub planRule : Bool
-  planRule = followersRule && onceRule
+  planRule = followersRule && onceRule N f
 
 module _ (f : ℕ → ℕ) (c : ℕ → ℕ → ℕ) (y : ℕ → ℤ) where
   -- "y(b) − y(f(p)) ≤ d(p,b) − d(p,f(p))", c p b being d(p,b)

@@ -4,7 +4,7 @@ use mathlib.Core.Path.{_≡_}
 use mathlib.Core.List.{List, [], _∷_, map, List·Memᴰ}
 use lib.ListN.{length, replicate}
 use Rattle.base.specs.Lists.{upTo}
-use Rattle.workfunction.specs.Lists.{least, orders, choices}
+use Rattle.workfunction.specs.Lists.{minimum, permutations, sections}
 
 -- "A position is a list of k places, k being the number of cranes": places of a table of n.
 pub record Position (n k : ℕ) (C : List ℕ) : Type 0 where
@@ -13,7 +13,7 @@ pub record Position (n k : ℕ) (C : List ℕ) : Type 0 where
 
 -- every position
 unfoldable pub positions : ℕ → ℕ → List (List ℕ)
-positions n k = choices (replicate k (upTo n (λ p. p)))
+positions n k = sections (replicate k (upTo n (λ p. p)))
 
 module _ (d : ℕ → ℕ → ℕ) where
   -- the sum of one pairing of two lists of one length: each entry of A with the entry of B in its slot
@@ -24,4 +24,4 @@ module _ (d : ℕ → ℕ → ℕ) where
 
   -- "The distance of two positions is the least sum over all pairings": A beside B in every order.
   unfoldable pub distance : List ℕ → List ℕ → ℕ
-  distance A B = least (map (pairing A) (orders B))
+  distance A B = minimum (map (pairing A) (permutations B))

@@ -2,14 +2,14 @@
 -- Assumes nothing.
 use mathlib.Core.Path.{sym}
 use borrow.Author.Needs.{needs}
-use Rattle.road.specs.Table.{distance}
+use Rattle.road.specs.Table.{metresOf}
 use Rattle.dayfile.proofs.Limits.{day-tested}
-use Rattle.book.proofs.DayServed.{Begun, day-sound, day-fits, calls-fit, calls-long, day-called, day-asked, day-kept, day-figures}
+use Rattle.book.proofs.DayServed.{FreshDay, day-sound, day-fits, calls-fit, calls-long, day-called, day-asked, day-kept, day-figures}
 use Rattle.book.proofs.Sound.{starts-long, stands-long, sound-roads}
 use Rattle.book.proofs.day_served.Statement.{statement}
 use Rattle.book.proofs.day_served.Tie as tie
 
-given : (c : tie.After-book) → let s = c .before .before in Begun (s .args .day) (distance (s .args .table .now)) (c .book .result)
+given : (c : tie.After-book) → let s = c .before .before in FreshDay (s .args .day) (metresOf (s .args .table .now)) (c .book .result)
 given c = record {
   none = c .before .before .pre;
   starts = search needs;

@@ -6,7 +6,7 @@ use mathlib.Core.Path.{_≡_, sym, _∙_}
 use borrow.Author.Tests.{lt-ltb, le-ltb}
 use native.Mathlib.Decide.{ℕ-discrete, decLt}
 use native.Mathlib.Omega.{arith}
-use Rattle.book.specs.Search.{netBase, reach, Begun, Nearest, Kept, Bettered, Relaxed, Ready, Searched}
+use Rattle.book.specs.Search.{netBase, reach, Begun, Nearest, Unbettered, Bettered, Relaxed, Ready, Searched}
 
 -- ---- how far a follower reaches
 
@@ -226,7 +226,7 @@ module _ {k N : ℕ} {f : ℕ → ℕ} {c : ℕ → ℕ → ℕ} {head : ℕ →
       -- what became of p
       abbrev Way : ℕ → Type 0
       Way p =
-          Kept (reach k N (f q)) (total q - c q (f q)) (λ p. c p (f q)) total parent total' parent' p
+          Unbettered (reach k N (f q)) (total q - c q (f q)) (λ p. c p (f q)) total parent total' parent' p
           ⊎ Bettered (reach k N (f q)) (total q - c q (f q)) q (λ p. c p (f q)) total total' parent' p
 
       leg-q : c q (f q) ≤ total q

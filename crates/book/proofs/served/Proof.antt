@@ -9,12 +9,12 @@ use lib.Dec.{ltb}
 use lib.ListN.{length}
 use native.Mathlib.Omega.{arith}
 use Rattle.base.proofs.Numbers.{unless-zero, then-zero, first-of}
-use Rattle.road.specs.Table.{distance, entry}
+use Rattle.road.specs.Table.{metresOf, entry}
 use Rattle.book.specs.declared.Book.{Book}
 use Rattle.book.specs.Book.{startsOf, standsOf, requestsOf, SameBook, bookRefusal}
 use Rattle.book.specs.Insertion.{Kept}
 use Rattle.book.specs.Legs.{LegTable}
-use Rattle.book.specs.Serving.{callRefusal}
+use Rattle.book.specs.Serving.{servingRefusal}
 use Rattle.book.proofs.Carried.{sound-kept, told-after, next}
 use Rattle.book.proofs.Sound.{Arrays, Fits, fit, starts-long, stands-long, requests-long, Sound, book-sound, sound-roads, sound-fits}
 use Rattle.book.proofs.Tidy.{tidy-same, tidy-refusal, tidy-plan, tidy-weights}
@@ -27,7 +27,7 @@ record Called (book : Book) (n : ℕ) (d : ℕ → ℕ → ℕ) (r : ℕ) : Type
   on : r < n
   space : book .calls < 256
 
-called : (book : Book) (n : ℕ) (d : ℕ → ℕ → ℕ) (r : ℕ) → callRefusal book n d r ≡ 0 → Called book n d r
+called : (book : Book) (n : ℕ) (d : ℕ → ℕ → ℕ) (r : ℕ) → servingRefusal book n d r ≡ 0 → Called book n d r
 called book n d r h =
     let tested = then-zero (bookRefusal book n d) _ h in
     let asked = first-of (ltb r n) 4 _ (tested .1) in
@@ -39,11 +39,11 @@ called book n d r h =
 
 -- the distances
 abbrev roads : tie.Start → ℕ → ℕ → ℕ
-roads s = distance (s .args .table .now)
+roads s = metresOf (s .args .table .now)
 
 -- the call is accepted
 abbrev Accepted : tie.Start → ℕ → Type 0
-Accepted s n = callRefusal (s .args .book) n (roads s) (s .args .place) ≡ 0
+Accepted s n = servingRefusal (s .args .book) n (roads s) (s .args .place) ≡ 0
 
 fits : (s : tie.Start) (n : ℕ) → Accepted s n → Fits (s .args .book)
 fits s n h =

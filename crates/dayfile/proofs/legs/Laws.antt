@@ -13,7 +13,7 @@ use native.Mathlib.Omega.{arith}
 use Rattle.base.specs.Lists.{upTo}
 use Rattle.base.proofs.Lists.{length-upTo, getD-padded}
 use Rattle.base.proofs.Tests.{by-order}
-use Rattle.road.specs.Table.{distance}
+use Rattle.road.specs.Table.{metresOf}
 use Rattle.dayfile.specs.declared.codec.Record.{Record}
 use Rattle.dayfile.specs.Legs.{legCount, leg, legRecords, legMetres, between, legRow, legTable}
 
@@ -68,7 +68,7 @@ module _ (rs : List Record) (u v : ℕ) where
   unfolding between
   between-self e = rw (le-ltb u v (le-of-eq (sym e)), le-ltb v u (le-of-eq e))
 
-  pub table-at : (n : ℕ) → u < n → v < n → distance (legTable n rs) u v ≡ between rs u v
+  pub table-at : (n : ℕ) → u < n → v < n → metresOf (legTable n rs) u v ≡ between rs u v
   unfolding legTable legRow
   table-at n p q = ap (λ (row : List ℕ). getD row v 0) (getD-padded 64 n _ _ [] u p) ∙ getD-padded 64 n _ 0 0 v q
 

@@ -6,7 +6,7 @@ use borrow.Author.Needs.{needs}
 use lib.ListN.{length}
 use lib.Seq.{length-take-le}
 use native.Mathlib.Omega.{arith}
-use Rattle.dayfile.specs.Day.{startsOf, requestsOf}
+use Rattle.dayfile.specs.Day.{dayStarts, dayRequests}
 use Rattle.dayfile.proofs.Outputs.{all-put}
 use Rattle.dayfile.proofs.put.Statement.{statement}
 use Rattle.dayfile.proofs.put.Tie as tie
@@ -21,10 +21,10 @@ enough-requests c =
     let len : length (c .args .day .requests) ≡ 256 = search needs in
     omega arith
 
-cranes : (c : tie.Start) → length (startsOf (c .args .day)) ≡ c .args .day .cranes
+cranes : (c : tie.Start) → length (dayStarts (c .args .day)) ≡ c .args .day .cranes
 cranes c = length-take-le _ _ (enough-starts c)
 
-calls : (c : tie.Start) → length (requestsOf (c .args .day)) ≡ c .args .day .calls
+calls : (c : tie.Start) → length (dayRequests (c .args .day)) ≡ c .args .day .calls
 calls c = length-take-le _ _ (enough-requests c)
 
 count-requires : tie.Need-count-requires

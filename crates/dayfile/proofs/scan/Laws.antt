@@ -13,7 +13,7 @@ use native.Mathlib.Numerals.{add-one}
 use native.Mathlib.Omega.{arith}
 use Rattle.base.specs.Numbers.{unless, _then_}
 use Rattle.base.specs.Tests.{within}
-use Rattle.base.proofs.Numbers.{unless-zero, then-zero, first-of}
+use Rattle.base.proofs.Numbers.{unless-zero, then-zero, first-of, zeros-told}
 use Rattle.base.proofs.Tests.{within-least, within-most}
 use Rattle.road.specs.Table.{metresRefusal}
 use Rattle.dayfile.specs.declared.codec.Record.{Record}
@@ -123,7 +123,7 @@ module _ (s : State) (r : Record) where
   after-call k = rw k
 
 -- the numbers of a scan after i records
-pub record Kept (s : State) (i : ℕ) : Type 0 where
+pub record Progress (s : State) (i : ℕ) : Type 0 where
   pub ordered : s .first < s .second
   pub places : s .second ≤ 64
   pub cranes : s .cranes ≤ 16
@@ -131,27 +131,26 @@ pub record Kept (s : State) (i : ℕ) : Type 0 where
   pub idle : s .cranes ≡ 0 → s .calls ≡ 0
   pub index : i ≡ legCount (s .second) + s .first + s .cranes + s .calls
 
-pub kept-start : Kept start 0
+pub progress-start : Progress start 0
 unfolding legCount
-kept-start = record { ordered = lit< tt; places = lit≤ tt; cranes = zero-le; calls = zero-le; idle = λ e. refl; index = refl }
+progress-start = record { ordered = lit< tt; places = lit≤ tt; cranes = zero-le; calls = zero-le; idle = λ e. refl; index = refl }
 
 module _ (s : State) (r : Record) (i : ℕ) where
-  pub kept-after : Accepted s r → Kept s i → Kept (after s r) (i + 1)
-  kept-after (a-leg e k n m) h =
-      subst⁻¹ (λ (t : State). Kept t (i + 1)) (after-leg s r (ap (λ (q : Record). q .kind) e))
-      (leg-next s r (ℕ-discrete (s .first + 1) (s .second)) (λ (t : State). Kept t (i + 1))
+  pub progress-after : Accepted s r → Progress s i → Progress (after s r) (i + 1)
+  progress-after (a-leg e k n m) h =
+      subst⁻¹ (λ (t : State). Progress t (i + 1)) (after-leg s r (ap (λ (q : Record). q .kind) e))
+      (leg-next s r (ℕ-discrete (s .first + 1) (s .second)) (λ (t : State). Progress t (i + 1))
       (λ f. record { ordered = omega arith; places = omega arith; cranes = h .cranes; calls = h .calls; idle = h .idle; index = omega (arith, leg-count-more (s .second), h .index) })
       (λ f. record { ordered = omega arith; places = h .places; cranes = h .cranes; calls = h .calls; idle = h .idle; index = omega arith }))
-  kept-after (a-crane e f m p k) h =
-      subst⁻¹ (λ (t : State). Kept t (i + 1)) (after-crane s r (ap (λ (q : Record). q .kind) e))
+  progress-after (a-crane e f m p k) h =
+      subst⁻¹ (λ (t : State). Progress t (i + 1)) (after-crane s r (ap (λ (q : Record). q .kind) e))
       (record { ordered = h .ordered; places = h .places; cranes = omega arith; calls = h .calls; idle = λ z. m; index = omega arith })
-  kept-after (a-call e f p k m) h =
-      subst⁻¹ (λ (t : State). Kept t (i + 1)) (after-call s r (ap (λ (q : Record). q .kind) e))
+  progress-after (a-call e f p k m) h =
+      subst⁻¹ (λ (t : State). Progress t (i + 1)) (after-call s r (ap (λ (q : Record). q .kind) e))
       (record { ordered = h .ordered; places = h .places; cranes = h .cranes; calls = omega arith; idle = λ z. absurd (omega arith); index = omega arith })
 
 pub refuses : (i n : ℕ) (x : Scan) → (n ≡ 0 → ⊥) → refuseAt i n x ≡ refused n i
-refuses i zero x h = absurd (h refl)
-refuses i (suc n) x h = refl
+refuses i n x h = sym (zeros-told n x (λ m. refused m i) h)
 
 -- the scan of the records from index i on
 module _ (rs : List Record) (i : ℕ) (s : State) (r : Record) (lt : i < length rs) (here : getD rs i none ≡ r) where

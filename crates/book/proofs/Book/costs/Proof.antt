@@ -1,15 +1,15 @@
 -- `book::Book::costs` meets its contract: a refusal of the book is handed up with zeros, else the kept plan's cost is w of the
 -- stands, and the floor is that of the starts and calls. Assumes nothing.
-use Prim.Native.Nat.{ℕ, zero, suc}
-use mathlib.Core.Path.{_≡_, refl, sym, _∙_}
+use Prim.Native.Nat.{ℕ}
+use mathlib.Core.Path.{_≡_, sym, _∙_}
 use borrow.Author.Needs.{needs}
-use Rattle.base.proofs.Numbers.{accepts, refused-number}
-use Rattle.road.specs.Table.{distance, entry}
+use Rattle.base.proofs.Numbers.{zeros-told, accepts, refused-number}
+use Rattle.road.specs.Table.{metresOf, entry}
 use Rattle.workfunction.specs.Movement.{work, floor}
 use Rattle.workfunction.specs.Plan.{planCost, legCost}
 use Rattle.book.specs.declared.Book.{Book}
 use Rattle.book.specs.Book.{startsOf, standsOf, requestsOf, stopsOf, follower, bookRefusal}
-use Rattle.book.specs.Serving.{TwoCosts, costsOr, costsOf}
+use Rattle.book.specs.Serving.{TwoCosts, costsOf}
 use Rattle.book.proofs.Sound.{Arrays, Fits, starts-long, requests-long, Sound, book-sound, sound-book}
 use Rattle.book.proofs.Sound.{sound-roads, sound-fits, sound-asked, sound-work}
 use Rattle.book.proofs.legs.Laws.{same-costs}
@@ -17,15 +17,10 @@ use Rattle.book.proofs.weights.Laws.{cost-over-legs}
 use Rattle.book.proofs.Book.costs.Statement.{statement}
 use Rattle.book.proofs.Book.costs.Tie as tie
 
--- no costs beside a refusal
-no-costs : (n least floor : ℕ) → (n ≡ 0 → ⊥) → _≡_ {A = TwoCosts} (record { number = n; least = 0; floor = 0 }) (costsOr n least floor)
-no-costs zero least floor h = absurd (h refl)
-no-costs (suc n) least floor h = refl
-
 refused : (book : Book) (places : ℕ) (d : ℕ → ℕ → ℕ) (n : ℕ) → n ≡ bookRefusal book places d → (n ≡ 0 → ⊥)
     → _≡_ {A = TwoCosts} (record { number = n; least = 0; floor = 0 }) (costsOf book places d)
 unfolding costsOf
-refused book places d n e h = rw (← e) (no-costs n _ _ h)
+refused book places d n e h = rw (← e) (zeros-told n _ (λ m. record { number = m; least = 0; floor = 0 }) h)
 
 module _ {book : Book} {n : ℕ} {d : ℕ → ℕ → ℕ} (arrays : Arrays book) (s : Sound book n d) where
   -- the kept plan, over what is read off the table
@@ -44,7 +39,7 @@ module _ {book : Book} {n : ℕ} {d : ℕ → ℕ → ℕ} (arrays : Arrays book
   told l f least e = rw (sound-book s, least, kept-work, e)
 
 -- what the test of the book tells once it accepted
-tested : (c : tie.After-enum-told) → let a = c .before .before .before .args in Sound (a .self) (a .places) (distance (a .t3))
+tested : (c : tie.After-enum-told) → let a = c .before .before .before .args in Sound (a .self) (a .places) (metresOf (a .t3))
 tested c = book-sound (accepts _ _ (c .enum-told .given .1) (c .before .before .test .ensures))
 
 arrays : (c : tie.After-enum-told) → Arrays (c .before .before .before .args .self)

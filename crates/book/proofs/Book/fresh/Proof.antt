@@ -1,26 +1,22 @@
 -- `book::Book::fresh` meets its contract: a refusal of the day is handed up with a book of zeros, else the fresh book.
 -- Assumes nothing.
-use Prim.Native.Nat.{ℕ, zero, suc}
-use mathlib.Core.Path.{_≡_, refl}
+use Prim.Native.Nat.{ℕ}
+use mathlib.Core.Path.{_≡_}
 use borrow.Author.Needs.{needs}
-use Rattle.base.proofs.Numbers.{accepts, refused-number}
-use Rattle.road.specs.Table.{distance}
+use Rattle.base.proofs.Numbers.{zeros-told, accepts, refused-number}
+use Rattle.road.specs.Table.{metresOf}
 use Rattle.dayfile.specs.declared.Day.{Day}
 use Rattle.dayfile.specs.Day.{dayRefusal}
 use Rattle.dayfile.proofs.Limits.{day-tested}
 use Rattle.book.specs.declared.Book.{Book}
-use Rattle.book.specs.Book.{freshBook, emptyBook, Opened, openedOf, freshOf}
+use Rattle.book.specs.Book.{freshBook, emptyBook, Opened, freshOf}
 use Rattle.book.proofs.Book.fresh.Statement.{statement}
 use Rattle.book.proofs.Book.fresh.Tie as tie
-
-empty : (n : ℕ) (fresh book : Book) → (n ≡ 0 → ⊥) → book ≡ emptyBook → _≡_ {A = Opened} (record { number = n; book = book }) (openedOf n fresh)
-empty zero fresh book h e = absurd (h refl)
-empty (suc n) fresh book h e = λ i. record { number = suc n; book = e i }
 
 refused : (day : Day) (d : ℕ → ℕ → ℕ) (n : ℕ) (book : Book) → n ≡ dayRefusal day d → (n ≡ 0 → ⊥) → book ≡ emptyBook
     → _≡_ {A = Opened} (record { number = n; book = book }) (freshOf day d)
 unfolding freshOf
-refused day d n book e h q = rw (← e) (empty n _ book h q)
+refused day d n book e h q = rw (← e, q) (zeros-told n _ (λ m. record { number = m; book = emptyBook }) h)
 
 opened : (day : Day) (d : ℕ → ℕ → ℕ) (book : Book) → dayRefusal day d ≡ 0 → book ≡ freshBook (day .cranes) (day .starts)
     → _≡_ {A = Opened} (record { number = 0; book = book }) (freshOf day d)
@@ -28,7 +24,7 @@ unfolding freshOf
 opened day d book e q = rw (e, q)
 
 -- what the test of the day tells once it accepted
-tested : (c : tie.After-enum-told) → let a = c .before .before .before .args in dayRefusal (a .day) (distance (a .table)) ≡ 0
+tested : (c : tie.After-enum-told) → let a = c .before .before .before .args in dayRefusal (a .day) (metresOf (a .table)) ≡ 0
 tested c = accepts _ _ (c .enum-told .given .1) (c .before .before .test .ensures)
 
 test-requires : tie.Need-test-requires

@@ -1,31 +1,24 @@
 -- `book::Book::serve` meets its contract: a refusal of the book, then of the call, goes with the book as it was given, else the call
 -- is served. Assumes nothing.
-use Prim.Native.Nat.{ℕ, zero, suc}
+use Prim.Native.Nat.{ℕ}
 use mathlib.Core.List.{List}
-use mathlib.Core.Path.{_≡_, refl, sym, ap, _∙_}
+use mathlib.Core.Path.{_≡_, sym, ap, _∙_}
 use borrow.Author.Needs.{needs}
 use lib.IntN.{ℤ}
-use Rattle.base.proofs.Numbers.{accepts, refused-number, goes-on, handed-up}
-use Rattle.road.specs.Table.{distance}
-use Rattle.workfunction.specs.Serving.{Served}
+use Rattle.base.proofs.Numbers.{zeros-told, accepts, refused-number, goes-on, handed-up}
+use Rattle.road.specs.Table.{metresOf}
 use Rattle.book.specs.declared.Book.{Book}
-use Rattle.book.specs.Serving.{askedRefusal, callRefusal, tidied, bookAfter, Outcome, unserved, outcomeOf, figuresOf, servedOf, Next}
+use Rattle.book.specs.Serving.{askedRefusal, servingRefusal, tidied, bookAfter, Outcome, unserved, figuresOf, servedOf, Next}
 use Rattle.book.proofs.Book.serve.Statement.{statement}
 use Rattle.book.proofs.Book.serve.Tie as tie
 
--- the book as it was given goes with a number other than 0
-turned : (m : ℕ) (figures : Served) (new old : Book) → (m ≡ 0 → ⊥)
-    → _≡_ {A = Outcome} (record { number = m; figures = unserved; book = old }) (outcomeOf m figures new old)
-turned zero figures new old h = absurd (h refl)
-turned (suc m) figures new old h = refl
-
 module _ (book : Book) (n : ℕ) (d : ℕ → ℕ → ℕ) (r : ℕ) (o : Outcome) (plan : List ℕ) (weights : List ℤ) where
-  refused : (m : ℕ) → m ≡ callRefusal book n d r → (m ≡ 0 → ⊥) → o ≡ record { number = m; figures = unserved; book = book }
-      → (o ≡ servedOf book n d r plan weights) × (callRefusal book n d r ≡ 0 → Next (o .book) n d)
+  refused : (m : ℕ) → m ≡ servingRefusal book n d r → (m ≡ 0 → ⊥) → o ≡ record { number = m; figures = unserved; book = book }
+      → (o ≡ servedOf book n d r plan weights) × (servingRefusal book n d r ≡ 0 → Next (o .book) n d)
   unfolding servedOf
-  refused m e h q = (q ∙ rw (← e) (turned m _ _ book h), λ z. absurd (h (e ∙ z)))
+  refused m e h q = (q ∙ rw (← e) (zeros-told m _ (λ x. record { number = x; figures = unserved; book = book }) h), λ z. absurd (h (e ∙ z)))
 
-  accepted : callRefusal book n d r ≡ 0
+  accepted : servingRefusal book n d r ≡ 0
       → o ≡ record { number = 0; figures = figuresOf book n d r; book = bookAfter (tidied book) (o .figures .crane) r plan weights }
       → o ≡ servedOf book n d r plan weights
   unfolding servedOf
@@ -34,7 +27,7 @@ module _ (book : Book) (n : ℕ) (d : ℕ → ℕ → ℕ) (r : ℕ) (o : Outcom
 -- where the test of the book accepted, that of the call decides
 asked : (c : tie.After-test-call) (m : ℕ) → let a = c .before .before .before .before .args in
     m ≡ askedRefusal (a .places) (a .self .calls) (a .place)
-    → m ≡ callRefusal (a .self) (a .places) (distance (a .t3)) (a .place)
+    → m ≡ servingRefusal (a .self) (a .places) (metresOf (a .t3)) (a .place)
 asked c m q = let t = c .before in goes-on _ _ _ m (t .enum-told .given .1) (t .before .before .test .ensures) q
 
 test-requires : tie.Need-test-requires
@@ -77,7 +70,7 @@ returns-2 c =
 
 -- both tests accepted
 called : (c : tie.After-enum-told3) → let a = c .before .before .before .before .before .before .args in
-    callRefusal (a .self) (a .places) (distance (a .t3)) (a .place) ≡ 0
+    servingRefusal (a .self) (a .places) (metresOf (a .t3)) (a .place) ≡ 0
 called c =
     let a = c .before .before in
     sym (asked a 0 (sym (accepts _ _ (c .enum-told3 .given .1) (a .test-call .ensures))))

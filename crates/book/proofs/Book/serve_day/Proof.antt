@@ -1,34 +1,22 @@
 -- `book::Book::serve_day` meets its contract: a refusal of the day is handed up with zeros, else the day is served.
 -- Assumes nothing.
-use Prim.Native.Nat.{ℕ, zero, suc}
-use mathlib.Core.List.{List}
-use mathlib.Core.Path.{_≡_, refl}
+use Prim.Native.Nat.{ℕ}
+use mathlib.Core.Path.{_≡_}
 use borrow.Author.Needs.{needs}
-use lib.ListN.{replicate}
-use Rattle.base.proofs.Numbers.{accepts, refused-number}
-use Rattle.road.specs.Table.{distance}
+use Rattle.base.proofs.Numbers.{zeros-told, accepts, refused-number}
+use Rattle.road.specs.Table.{metresOf}
 use Rattle.dayfile.specs.declared.Day.{Day}
 use Rattle.dayfile.specs.Day.{dayRefusal}
-use Rattle.workfunction.specs.Serving.{Served}
-use Rattle.book.specs.Serving.{DayFigures, dayOr, servedDay}
+use Rattle.book.specs.Serving.{noFigures, servedDay}
 use Rattle.book.proofs.Book.serve_day.Statement.{statement}
 use Rattle.book.proofs.Book.serve_day.Tie as tie
 
-zeros : ℕ → DayFigures
-zeros n =
-    record { number = n; calls = 0; cranes = replicate 256 0; metres = replicate 256 0; leasts = replicate 256 0; driven = 0; floor = 0 }
-
-unserved : (n m : ℕ) (all : List Served) (floor : ℕ) → (n ≡ 0 → ⊥) → zeros n ≡ dayOr n m all floor
-unfolding zeros
-unserved zero m all floor h = absurd (h refl)
-unserved (suc n) m all floor h = refl
-
-refused : (day : Day) (d : ℕ → ℕ → ℕ) (n : ℕ) → n ≡ dayRefusal day d → (n ≡ 0 → ⊥) → zeros n ≡ servedDay day d
+refused : (day : Day) (d : ℕ → ℕ → ℕ) (n : ℕ) → n ≡ dayRefusal day d → (n ≡ 0 → ⊥) → noFigures n ≡ servedDay day d
 unfolding servedDay
-refused day d n e h = rw (← e) (unserved n _ _ _ h)
+refused day d n e h = rw (← e) (zeros-told n _ noFigures h)
 
 -- what the test of the day tells once it accepted
-tested : (c : tie.After-enum-told) → let a = c .before .before .before .args in dayRefusal (a .day) (distance (a .t2)) ≡ 0
+tested : (c : tie.After-enum-told) → let a = c .before .before .before .args in dayRefusal (a .day) (metresOf (a .t2)) ≡ 0
 tested c = accepts _ _ (c .enum-told .given .1) (c .before .before .test .ensures)
 
 test-requires : tie.Need-test-requires
@@ -41,7 +29,6 @@ enum-told-2 : tie.Need-enum-told-2
 enum-told-2 c = search needs
 
 returns : tie.Need-returns
-unfolding zeros
 returns c =
     let e = c .enum-told2 .given in
     refused _ _ _ (c .before .before .test .ensures) (refused-number _ (e .0 .0) (e .1))

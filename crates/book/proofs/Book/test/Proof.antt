@@ -9,10 +9,10 @@ use native.Mathlib.Nat.{le-trans}
 use native.Mathlib.Omega.{arith}
 use Rattle.base.specs.Numbers.{_then_}
 use Rattle.base.proofs.Numbers.{accepts, holds, unless-zero, first-of, asked-again, goes-on, handed-up}
-use Rattle.road.specs.Table.{distance, entry, legsRefusal, triangleRefusal}
+use Rattle.road.specs.Table.{metresOf, entry, legsRefusal, triangleRefusal}
 use Rattle.road.proofs.Table.{entry-in}
 use Rattle.dayfile.specs.Day.{stopsRule, countsRefusal, stopsRefusal}
-use Rattle.dayfile.proofs.Limits.{Counted, counted, placed}
+use Rattle.dayfile.proofs.Limits.{CountsTested, counts-tested, places-accepted}
 use Rattle.workfunction.specs.Plan.{planRule, legCost}
 use Rattle.book.specs.declared.Book.{Book}
 use Rattle.book.specs.Book.{startsOf, standsOf, requestsOf, stopsOf, follower, weightsRefusal, bookRefusal}
@@ -37,7 +37,7 @@ one-by-one book m t n = apart (stopsRefusal m (startsOf book)) (stopsRefusal m (
     apart (suc r) s u h = h
 
 -- over what is read off the table as over its distances
-by-reading : (book : Book) (n : ℕ) (d : ℕ → ℕ → ℕ) → Counted n (book .cranes) (book .calls) → stopsTest book n ≡ 0
+by-reading : (book : Book) (n : ℕ) (d : ℕ → ℕ → ℕ) → CountsTested n (book .cranes) (book .calls) → stopsTest book n ≡ 0
     → planRule (book .cranes) (stopsOf book) (follower (book .plan)) ≡ true
     → weightsRefusal (book .cranes) (stopsOf book) (book .plan) (book .weights) (legCost (entry d) (startsOf book) (requestsOf book) (standsOf book))
     ≡ weightsRefusal (book .cranes) (stopsOf book) (book .plan) (book .weights) (legCost d (startsOf book) (requestsOf book) (standsOf book))
@@ -51,8 +51,8 @@ by-reading book n d counts stopped planned =
     (λ u v h l. entry-in d u v (most u h) (most v l)) p b)
 
 -- what the numbers tested first tell
-counted-so : (c : tie.After-enum-told) → let a = c .before .before .before .before .args in Counted (a .places) (a .self .cranes) (a .self .calls)
-counted-so c = counted _ _ _ (accepts _ _ (c .enum-told .given .1) (c .before .before .test-counts .ensures))
+counted-so : (c : tie.After-enum-told) → let a = c .before .before .before .before .args in CountsTested (a .places) (a .self .cranes) (a .self .calls)
+counted-so c = counts-tested _ _ _ (accepts _ _ (c .enum-told .given .1) (c .before .before .test-counts .ensures))
 
 -- the tests from the first on, and after them t
 abbrev fromCounts : Book → ℕ → ℕ → ℕ
@@ -73,15 +73,15 @@ counts : (c : tie.After-enum-told) (t n : ℕ) → n ≡ t
 counts c t n q = goes-on _ _ t n (c .enum-told .given .1) (c .before .before .test-counts .ensures) q
 
 legs : (c : tie.After-enum-told3) (t n : ℕ) → n ≡ t
-    → let a = c .before .before .before .before .before .before .before .args in n ≡ fromLegs (a .self) (a .places) (distance (a .t3)) t
+    → let a = c .before .before .before .before .before .before .before .args in n ≡ fromLegs (a .self) (a .places) (metresOf (a .t3)) t
 legs c t n q =
     let k = c .before .before .before in
     counts k _ n
-    (goes-on _ _ t n (c .enum-told3 .given .1) (asked-again _ _ _ (placed _ _ _ (counted-so k)) (c .before .before .test-legs .ensures)) q)
+    (goes-on _ _ t n (c .enum-told3 .given .1) (asked-again _ _ _ (places-accepted _ _ _ (counted-so k)) (c .before .before .test-legs .ensures)) q)
 
 stops : (c : tie.After-enum-told5) (t n : ℕ) → n ≡ t
     → let a = c .before .before .before .before .before .before .before .before .before .before .args in
-    n ≡ fromStops (a .self) (a .places) (distance (a .t3)) t
+    n ≡ fromStops (a .self) (a .places) (metresOf (a .t3)) t
 stops c t n q =
     let l = c .before .before .before in
     let a = l .before .before .before .before .before .before .before .args in
@@ -90,12 +90,12 @@ stops c t n q =
 
 triangles : (c : tie.After-enum-told7) (t n : ℕ) → n ≡ t
     → let a = c .before .before .before .before .before .before .before .before .before .before .before .before .before .args in
-    n ≡ fromTriangles (a .self) (a .places) (distance (a .t3)) t
+    n ≡ fromTriangles (a .self) (a .places) (metresOf (a .t3)) t
 triangles c t n q =
     let s = c .before .before .before in
     let k = s .before .before .before .before .before .before in
     stops s _ n
-    (goes-on _ _ t n (c .enum-told7 .given .1) (asked-again _ _ _ (placed _ _ _ (counted-so k)) (c .before .before .test-triangles .ensures)) q)
+    (goes-on _ _ t n (c .enum-told7 .given .1) (asked-again _ _ _ (places-accepted _ _ _ (counted-so k)) (c .before .before .test-triangles .ensures)) q)
 
 -- what the test of the plan tells
 planned-so : (c : tie.After-enum-told9)
@@ -133,7 +133,7 @@ unfolding bookRefusal
 returns-2 c =
     let e = c .enum-told4 .given in
     let k = c .before .before .before in
-    counts k _ _ (handed-up _ (e .0 .0) (e .1) _ _ (asked-again _ _ _ (placed _ _ _ (counted-so k)) (c .before .before .test-legs .ensures)))
+    counts k _ _ (handed-up _ (e .0 .0) (e .1) _ _ (asked-again _ _ _ (places-accepted _ _ _ (counted-so k)) (c .before .before .test-legs .ensures)))
 
 test-stops-requires : tie.Need-test-stops-requires
 test-stops-requires c κs = let k = counted-so (c .before .before .before) in (k .cranes, k .calls)
@@ -168,7 +168,7 @@ returns-4 c =
     let e = c .enum-told8 .given in
     let s = c .before .before .before in
     let k = s .before .before .before .before .before .before in
-    stops s _ _ (handed-up _ (e .0 .0) (e .1) _ _ (asked-again _ _ _ (placed _ _ _ (counted-so k)) (c .before .before .test-triangles .ensures)))
+    stops s _ _ (handed-up _ (e .0 .0) (e .1) _ _ (asked-again _ _ _ (places-accepted _ _ _ (counted-so k)) (c .before .before .test-triangles .ensures)))
 
 add-test : tie.Need-add-test
 add-test c =
@@ -213,7 +213,7 @@ returns-6 c =
     let stopped = accepts _ _ (s .enum-told5 .given .1) (s .before .before .test-stops .ensures) in
     triangles t _ _
     (goes-on _ _ _ _ (p .enum-told9 .given .1) (p .before .before .test .ensures)
-    (c .test-weights .ensures ∙ by-reading (a .self) _ (distance (a .t3)) (counted-so k) stopped (planned-so p)))
+    (c .test-weights .ensures ∙ by-reading (a .self) _ (metresOf (a .t3)) (counted-so k) stopped (planned-so p)))
 
 pub test-spec : {M : Type 1} → statement M
 test-spec =

@@ -7,7 +7,7 @@ use borrow.Author.Needs.{needs}
 use lib.ListN.{length, set, length-set}
 use native.Mathlib.Omega.{arith}
 use Rattle.base.proofs.Tests.{one-more}
-use Rattle.road.specs.Table.{distance, entry}
+use Rattle.road.specs.Table.{metresOf, entry}
 use Rattle.workfunction.specs.Plan.{place}
 use Rattle.book.specs.Legs.{legAt}
 use Rattle.book.proofs.legs.Laws.{leg-written, leg-kept}
@@ -35,7 +35,7 @@ module _ (g : ℕ → ℕ) (p : ℕ) (old : List ℕ) where
     }
 
 abbrev Inv-loop : tie.InvT-loop
-Inv-loop table stands calls from p costs₀ b₀ costs b = Columned (λ a. entry (distance table) from (place stands calls a)) p costs₀ costs b
+Inv-loop table stands calls from p costs₀ b₀ costs b = Columned (λ a. entry (metresOf table) from (place stands calls a)) p costs₀ costs b
 
 abbrev μ-loop : tie.MeasureT-loop
 μ-loop table stands calls from p costs₀ b₀ costs b = p - b

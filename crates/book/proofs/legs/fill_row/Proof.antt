@@ -8,14 +8,14 @@ use lib.ListN.{length}
 use lib.Seq.{drop-length}
 use native.Mathlib.Omega.{arith}
 use Rattle.base.proofs.Lists.{Filled, fill-begun, fill-turned, fill-ended}
-use Rattle.road.specs.Table.{distance, entry}
+use Rattle.road.specs.Table.{metresOf, entry}
 use Rattle.workfunction.specs.Plan.{place}
 use Rattle.book.proofs.legs.fill_row.Statement.{statement}
 use Rattle.book.proofs.legs.fill_row.Tie as tie
 
 abbrev Inv-loop : tie.InvT-loop
 Inv-loop table starts calls to row₀ p₀ row p =
-    Filled (λ i. entry (distance table) (place starts calls i) to) row₀ (length row₀) row p
+    Filled (λ i. entry (metresOf table) (place starts calls i) to) row₀ (length row₀) row p
 
 abbrev μ-loop : tie.MeasureT-loop
 μ-loop table starts calls to row₀ p₀ row p = length row₀ - p

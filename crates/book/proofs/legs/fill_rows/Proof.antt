@@ -10,7 +10,7 @@ use lib.ListN.{length}
 use native.Mathlib.Nat.{le-refl, eq-or-lt-of-le}
 use native.Mathlib.Omega.{arith}
 use Rattle.base.specs.Lists.{upTo}
-use Rattle.road.specs.Table.{distance, entry}
+use Rattle.road.specs.Table.{metresOf, entry}
 use Rattle.workfunction.specs.Plan.{place, legCost}
 use Rattle.book.specs.Legs.{legAt, Rows, fromRow}
 use Rattle.book.proofs.search.Lent.{lent}
@@ -49,7 +49,7 @@ module _ (d : ℕ → ℕ → ℕ) (starts calls stands old : List ℕ) (n first
 
 abbrev Inv-loop : tie.InvT-loop
 Inv-loop table starts calls stands first costs₀ stops b₀ costs b =
-    RowsFilled (entry (distance table)) starts calls stands costs₀ stops first costs b
+    RowsFilled (entry (metresOf table)) starts calls stands costs₀ stops first costs b
 
 abbrev μ-loop : tie.MeasureT-loop
 μ-loop table starts calls stands first costs₀ stops b₀ costs b = stops - b

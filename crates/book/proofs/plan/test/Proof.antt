@@ -13,7 +13,7 @@ abbrev may : tie.Start → Bool
 may s = followersRule (s .args .cranes) (s .args .stops) (follower (s .args .plan .now))
 
 abbrev once : tie.Start → Bool
-once s = onceRule (s .args .cranes) (s .args .stops) (follower (s .args .plan .now))
+once s = onceRule (s .args .stops) (follower (s .args .plan .now))
 
 test-followers-requires : tie.Need-test-followers-requires
 test-followers-requires c κs = search needs

@@ -18,10 +18,10 @@ abbrev rule : ℕ → List ℕ → ℕ → Bool
 rule stops plan b = eqb (sumBelow stops (follows (follower plan) b)) 1
 
 abbrev Inv-loop : tie.InvT-loop
-Inv-loop cranes stops plan b₀ b = Passed stops (rule stops plan) b
+Inv-loop stops plan b₀ b = Passed stops (rule stops plan) b
 
 abbrev μ-loop : tie.MeasureT-loop
-μ-loop cranes stops plan b₀ b = stops - b
+μ-loop stops plan b₀ b = stops - b
 
 loop-holds : tie.Need-loop-holds Inv-loop μ-loop
 loop-holds c = begun _ _

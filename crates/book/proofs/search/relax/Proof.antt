@@ -9,7 +9,7 @@ use lib.Seq.{getD-set-same, getD-set-other}
 use native.Mathlib.Decide.{ℕ-discrete}
 use native.Mathlib.Nat.{le-antisymm}
 use native.Mathlib.Omega.{arith}
-use Rattle.book.specs.Search.{at, Kept, Bettered, Relaxed}
+use Rattle.book.specs.Search.{at, Unbettered, Bettered, Relaxed}
 use Rattle.book.proofs.search.relax.Statement.{statement}
 use Rattle.book.proofs.search.relax.Tie as tie
 
@@ -35,7 +35,7 @@ module _ (row : List ℕ) (net from : ℕ) (totals₀ parents₀ : List ℕ) whe
   module _ {totals parents : List ℕ} {p : ℕ} (r : Relaxing totals parents p) (lt : p < length row) where
     abbrev Way : (l : ℕ) (ts ps : List ℕ) → ℕ → Type 0
     Way l ts ps v =
-        Kept l net (at row) (at totals₀) (at parents₀) (at ts) (at ps) v ⊎ Bettered l net from (at row) (at totals₀) (at ts) (at ps) v
+        Unbettered l net (at row) (at totals₀) (at parents₀) (at ts) (at ps) v ⊎ Bettered l net from (at row) (at totals₀) (at ts) (at ps) v
 
     -- p itself is as it was
     untouched : Way p totals parents p → at totals p ≡ at totals₀ p

@@ -10,7 +10,7 @@ use native.Mathlib.Nat.{le-of-lt}
 use native.Mathlib.Omega.{arith}
 use Rattle.book.specs.Book.{follower}
 use Rattle.book.specs.Legs.{legAt}
-use Rattle.book.specs.Search.{at, Kept, Bettered, Relaxed}
+use Rattle.book.specs.Search.{at, Unbettered, Bettered, Relaxed}
 use Rattle.book.proofs.search.Laws.{reach-most}
 use Rattle.book.proofs.search.Lent.{lent, length-lent, lent-at}
 use Rattle.book.proofs.search.settle.Statement.{statement}
@@ -21,8 +21,8 @@ module _ {limit net from : ℕ} {total parent total' parent' : ℕ → ℕ} wher
       → Relaxed limit net from row' total parent total' parent'
   same-row row row' same r = record { each = λ p. go p (r .each p) }
     where
-      go : (p : ℕ) → Kept limit net row total parent total' parent' p ⊎ Bettered limit net from row total total' parent' p
-          → Kept limit net row' total parent total' parent' p ⊎ Bettered limit net from row' total total' parent' p
+      go : (p : ℕ) → Unbettered limit net row total parent total' parent' p ⊎ Bettered limit net from row total total' parent' p
+          → Unbettered limit net row' total parent total' parent' p ⊎ Bettered limit net from row' total total' parent' p
       go p (inl h) = inl (record { same = h .same; parented = h .parented; least = λ lt. rw (← same p lt) (h .least lt) })
       go p (inr h) = inr (record {
         below = h .below;

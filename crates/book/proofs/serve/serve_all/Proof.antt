@@ -8,7 +8,7 @@ use lib.IntN.{ℤ}
 use lib.ListN.{length, getD, take}
 use lib.Seq.{length-take-le}
 use native.Mathlib.Omega.{arith}
-use Rattle.road.specs.Table.{distance, entry}
+use Rattle.road.specs.Table.{metresOf, entry}
 use Rattle.book.specs.Insertion.{Roads, Kept}
 use Rattle.book.proofs.DayServed.{Running, run-begun, run-turned, run-ended, crane-few}
 use Rattle.book.proofs.serve.serve_all.Statement.{statement}
@@ -26,7 +26,7 @@ record Going (table : List (List ℕ)) (starts requests stands₀ plan₀ : List
   drives : length metres ≡ length metres₀
   works : length leasts ≡ length leasts₀
   low : driven ≤ 4294967296 * i
-  running : (n : ℕ) (d : ℕ → ℕ → ℕ) → Roads n d (entry (distance table)) → Kept n d starts [] stands₀ plan₀ weights₀ costs₀
+  running : (n : ℕ) (d : ℕ → ℕ → ℕ) → Roads n d (entry (metresOf table)) → Kept n d starts [] stands₀ plan₀ weights₀ costs₀
       → ((j : ℕ) → j < length requests → getD requests j 0 < n)
       → Running n d starts requests stands₀ cranes₀ metres₀ leasts₀ stands plan weights costs cranes metres leasts driven i
 

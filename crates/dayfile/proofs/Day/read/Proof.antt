@@ -9,13 +9,13 @@ use Rattle.base.specs.Numbers.{numberOf}
 use Rattle.base.specs.declared.Verdict.{Verdict}
 use Rattle.base.proofs.Numbers.{accepts, asked-again, refused-number}
 use Rattle.base.proofs.Tests.{within-yes}
-use Rattle.road.specs.Table.{distance, placesRefusal, triangleRefusal}
+use Rattle.road.specs.Table.{metresOf, placesRefusal, triangleRefusal}
 use Rattle.dayfile.specs.Codec.{records}
 use Rattle.dayfile.specs.Legs.{legTable}
 use Rattle.dayfile.specs.Scan.{counted, refuseAt, start, lengthRefusal, scan}
-use Rattle.dayfile.proofs.Answers.{length-refused, record-refused, way-refused, scanned-run, kept-read, file-read}
+use Rattle.dayfile.proofs.Answers.{length-refused, record-refused, way-refused, scanned-run, progress-read, file-read}
 use Rattle.dayfile.proofs.Grammar.{Run}
-use Rattle.dayfile.proofs.scan.Laws.{Kept}
+use Rattle.dayfile.proofs.scan.Laws.{Progress}
 use Rattle.dayfile.proofs.Day.read.Statement.{statement}
 use Rattle.dayfile.proofs.Day.read.Tie as tie
 
@@ -31,12 +31,12 @@ read-all c =
 run : (c : tie.After-enum-told3) → let f = c .before .before in Run start (records (f .before .before .before .before .before .args .bytes .now)) (f .scan .result .state)
 run c = scanned-run _ _ (read-all c)
 
-kept : (c : tie.After-enum-told3) → let f = c .before .before in Kept (f .scan .result .state) (length (f .before .before .before .before .before .args .bytes .now) / 12)
-kept c = kept-read _ _ (run c)
+kept : (c : tie.After-enum-told3) → let f = c .before .before in Progress (f .scan .result .state) (length (f .before .before .before .before .before .args .bytes .now) / 12)
+kept c = progress-read _ _ (run c)
 
 -- 3 does not apply to the number of places read, so the test of the ways between them decides
 ways : (c : tie.After-test-triangles) → let f = c .before .before .before .before .before in let n = f .scan .result .state .second in
-    numberOf (c .test-triangles .result) ≡ triangleRefusal n (distance (legTable n (records (f .before .before .before .before .before .args .bytes .now))))
+    numberOf (c .test-triangles .result) ≡ triangleRefusal n (metresOf (legTable n (records (f .before .before .before .before .before .args .bytes .now))))
 ways c =
     let k = kept (c .before .before .before) in
     let n = c .before .before .before .before .before .scan .result .state .second in

@@ -8,15 +8,15 @@ use lib.Seq.{length-take-le}
 use native.Mathlib.Omega.{arith}
 use Rattle.base.specs.Numbers.{_then_}
 use Rattle.base.proofs.Numbers.{accepts, asked-again, goes-on, handed-up}
-use Rattle.road.specs.Table.{distance, legsRefusal}
-use Rattle.dayfile.specs.Day.{countsRefusal, stopsRefusal, startsOf, dayRefusal}
-use Rattle.dayfile.proofs.Limits.{Counted, counted, placed}
+use Rattle.road.specs.Table.{metresOf, legsRefusal}
+use Rattle.dayfile.specs.Day.{countsRefusal, stopsRefusal, dayStarts, dayRefusal}
+use Rattle.dayfile.proofs.Limits.{CountsTested, counts-tested, places-accepted}
 use Rattle.dayfile.proofs.Day.test.Statement.{statement}
 use Rattle.dayfile.proofs.Day.test.Tie as tie
 
 -- what the numbers tested first tell
-counted-so : (c : tie.After-enum-told) → let a = c .before .before .before .before .before .args .self in Counted (a .places) (a .cranes) (a .calls)
-counted-so c = counted _ _ _ (accepts _ _ (c .enum-told .given .1) (c .before .before .test-counts .ensures))
+counted-so : (c : tie.After-enum-told) → let a = c .before .before .before .before .before .args .self in CountsTested (a .places) (a .cranes) (a .calls)
+counted-so c = counts-tested _ _ _ (accepts _ _ (c .enum-told .given .1) (c .before .before .test-counts .ensures))
 
 enough-starts : (c : tie.After-enum-told) → let a = c .before .before .before .before .before .args .self in a .cranes ≤ length (a .starts)
 enough-starts c =
@@ -34,13 +34,13 @@ counts : (c : tie.After-enum-told) (t n : ℕ) → n ≡ t
 counts c t n q = goes-on _ _ t n (c .enum-told .given .1) (c .before .before .test-counts .ensures) q
 
 legs : (c : tie.After-enum-told3) (t n : ℕ) → n ≡ t
-    → let a = c .before .before .before .before .before .before .before .before .args in n ≡ (legsRefusal (a .self .places) (distance (a .table)) then t)
+    → let a = c .before .before .before .before .before .before .before .before .args in n ≡ (legsRefusal (a .self .places) (metresOf (a .table)) then t)
 legs c t n q =
-    goes-on _ _ t n (c .enum-told3 .given .1) (asked-again _ _ _ (placed _ _ _ (counted-so (c .before .before .before))) (c .before .before .test-legs .ensures)) q
+    goes-on _ _ t n (c .enum-told3 .given .1) (asked-again _ _ _ (places-accepted _ _ _ (counted-so (c .before .before .before))) (c .before .before .test-legs .ensures)) q
 
 starts : (c : tie.After-enum-told5) (t n : ℕ) → n ≡ t
     → let a = c .before .before .before .before .before .before .before .before .before .before .before .before .args .self in
-    n ≡ (stopsRefusal (a .places) (startsOf a) then t)
+    n ≡ (stopsRefusal (a .places) (dayStarts a) then t)
 starts c t n q = goes-on _ _ t n (c .enum-told5 .given .1) (c .before .before .test-stops .ensures) q
 
 test-counts-requires : tie.Need-test-counts-requires
@@ -72,7 +72,7 @@ unfolding dayRefusal
 returns-2 c =
     let e = c .enum-told4 .given in
     let k = c .before .before .before in
-    counts k _ _ (handed-up _ (e .0 .0) (e .1) _ _ (asked-again _ _ _ (placed _ _ _ (counted-so k)) (c .before .before .test-legs .ensures)))
+    counts k _ _ (handed-up _ (e .0 .0) (e .1) _ _ (asked-again _ _ _ (places-accepted _ _ _ (counted-so k)) (c .before .before .test-legs .ensures)))
 
 array-share-prefix-starts : tie.Need-array-share-prefix-starts
 array-share-prefix-starts c = enough-starts (c .before .before .before)
@@ -132,7 +132,7 @@ returns-5 c =
     let k = l .before .before .before in
     counts k _ _ (legs l _ _ (starts s _ _
     (goes-on _ _ _ _ (r .enum-told7 .given .1) (r .before .before .test-stops2 .ensures)
-    (asked-again _ _ _ (placed _ _ _ (counted-so k)) (c .test-triangles .ensures)))))
+    (asked-again _ _ _ (places-accepted _ _ _ (counted-so k)) (c .test-triangles .ensures)))))
 
 pub test-spec : {M : Type 1} → statement M
 test-spec =

@@ -7,34 +7,34 @@ use lib.ListN.{length}
 use lib.Seq.{length-take-le}
 use native.Mathlib.Omega.{arith}
 use Rattle.base.proofs.Numbers.{accepts, refused-number}
-use Rattle.road.specs.Table.{distance}
-use Rattle.dayfile.specs.Day.{startsOf, requestsOf, dayRefusal}
+use Rattle.road.specs.Table.{metresOf}
+use Rattle.dayfile.specs.Day.{dayStarts, dayRequests, dayRefusal}
 use Rattle.dayfile.specs.Legs.{legCount}
-use Rattle.dayfile.proofs.Limits.{Counted, day-tested}
+use Rattle.dayfile.proofs.Limits.{CountsTested, day-tested}
 use Rattle.dayfile.proofs.Outputs.{day-refused, too-short, day-written}
 use Rattle.dayfile.proofs.legs.Laws.{leg-count-most}
 use Rattle.dayfile.proofs.Day.write.Statement.{statement}
 use Rattle.dayfile.proofs.Day.write.Tie as tie
 
 -- what the test of the day tells once it accepted
-tested : (c : tie.After-enum-told) → let a = c .before .before .before .before .args in dayRefusal (a .self) (distance (a .t2)) ≡ 0
+tested : (c : tie.After-enum-told) → let a = c .before .before .before .before .args in dayRefusal (a .self) (metresOf (a .t2)) ≡ 0
 tested c = accepts _ _ (c .enum-told .given .1) (c .before .before .test .ensures)
 
-counted : (c : tie.After-enum-told) → let a = c .before .before .before .before .args .self in Counted (a .places) (a .cranes) (a .calls)
-counted c = day-tested _ _ (tested c) .counts
+counts : (c : tie.After-enum-told) → let a = c .before .before .before .before .args .self in CountsTested (a .places) (a .cranes) (a .calls)
+counts c = day-tested _ _ (tested c) .counts
 
 legs : (c : tie.After-enum-told) → legCount (c .before .before .before .before .args .self .places) ≤ 2016
-legs c = leg-count-most _ (counted c .places)
+legs c = leg-count-most _ (counts c .places)
 
-cranes : (c : tie.After-enum-told) → let a = c .before .before .before .before .args .self in length (startsOf a) ≡ a .cranes
+cranes : (c : tie.After-enum-told) → let a = c .before .before .before .before .args .self in length (dayStarts a) ≡ a .cranes
 cranes c =
     let len : length (c .before .before .before .before .args .self .starts) ≡ 16 = search needs in
-    length-take-le _ _ (omega (arith, counted c))
+    length-take-le _ _ (omega (arith, counts c))
 
-calls : (c : tie.After-enum-told) → let a = c .before .before .before .before .args .self in length (requestsOf a) ≡ a .calls
+calls : (c : tie.After-enum-told) → let a = c .before .before .before .before .args .self in length (dayRequests a) ≡ a .calls
 calls c =
     let len : length (c .before .before .before .before .args .self .requests) ≡ 256 = search needs in
-    length-take-le _ _ (omega (arith, counted c))
+    length-take-le _ _ (omega (arith, counts c))
 
 test-requires : tie.Need-test-requires
 test-requires c κs = search needs
@@ -51,16 +51,16 @@ returns c =
     day-refused _ _ _ _ (c .before .before .test .ensures) (refused-number _ (e .0 .0) (e .1))
 
 count-requires : tie.Need-count-requires
-count-requires c κs = counted c .places
+count-requires c κs = counts c .places
 
 add-records : tie.Need-add-records
-add-records c = omega (arith, counted (c .before .before), legs (c .before .before))
+add-records c = omega (arith, counts (c .before .before), legs (c .before .before))
 
 add-records-2 : tie.Need-add-records-2
-add-records-2 c = omega (arith, counted (c .before .before .before), legs (c .before .before .before))
+add-records-2 c = omega (arith, counts (c .before .before .before), legs (c .before .before .before))
 
 mul-length : tie.Need-mul-length
-mul-length c = omega (arith, counted (c .before .before .before), legs (c .before .before .before))
+mul-length c = omega (arith, counts (c .before .before .before), legs (c .before .before .before))
 
 returns-2 : tie.Need-returns-2
 returns-2 c =
@@ -71,7 +71,7 @@ returns-2 c =
 put-requires : tie.Need-put-requires
 put-requires c κs =
     let n = c .before .before .before .before .before in
-    let k = counted (n .before) in
+    let k = counts (n .before) in
     (k .places, (k .cranes, (k .calls, rw (n .count .ensures) at (c .before .before .if1 .left))))
 
 same-length : tie.Need-same-length

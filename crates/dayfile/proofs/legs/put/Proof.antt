@@ -8,7 +8,7 @@ use lib.ListN.{length}
 use native.Mathlib.Nat.{zero-add}
 use native.Mathlib.Omega.{arith}
 use Rattle.base.specs.Lists.{upTo, splice}
-use Rattle.road.specs.Table.{distance}
+use Rattle.road.specs.Table.{metresOf}
 use Rattle.dayfile.specs.Codec.{encodeAll}
 use Rattle.dayfile.specs.Legs.{legCount, leg, legRecords}
 use Rattle.dayfile.proofs.codec.Laws.{Put, put-begun, put-turned, put-ended}
@@ -24,7 +24,7 @@ row-put d n old now new v fits p lt e =
     (rw (length-legRecords d v, zero-add) e)
 
 abbrev Inv-loop : tie.InvT-loop
-Inv-loop table places out₀ v₀ out v = Put (legRecords (distance table)) 0 out₀ places out v
+Inv-loop table places out₀ v₀ out v = Put (legRecords (metresOf table)) 0 out₀ places out v
 
 abbrev μ-loop : tie.MeasureT-loop
 μ-loop table places out₀ v₀ out v = places - v

@@ -5,7 +5,7 @@ use mathlib.Core.Path.{ap, _∙_}
 use borrow.Author.Needs.{needs}
 use native.Mathlib.Omega.{arith}
 use Rattle.base.specs.Lists.{upTo}
-use Rattle.road.specs.Table.{distance}
+use Rattle.road.specs.Table.{metresOf}
 use Rattle.road.proofs.Table.{entry-in}
 use Rattle.dayfile.specs.Legs.{leg}
 use Rattle.dayfile.proofs.codec.Laws.{Put, put-ended, put-one-begun, put-one-turned}
@@ -13,7 +13,7 @@ use Rattle.dayfile.proofs.legs.put_to.Statement.{statement}
 use Rattle.dayfile.proofs.legs.put_to.Tie as tie
 
 abbrev Inv-loop : tie.InvT-loop
-Inv-loop table v out₀ from u₀ out u = Put (λ k. upTo k (λ j. leg j v (distance table j v))) from out₀ v out u
+Inv-loop table v out₀ from u₀ out u = Put (λ k. upTo k (λ j. leg j v (metresOf table j v))) from out₀ v out u
 
 abbrev μ-loop : tie.MeasureT-loop
 μ-loop table v out₀ from u₀ out u = v - u

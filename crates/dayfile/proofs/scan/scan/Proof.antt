@@ -14,14 +14,14 @@ use Rattle.dayfile.specs.Codec.{decode, records}
 use Rattle.dayfile.specs.Legs.{none}
 use Rattle.dayfile.specs.Scan.{start, after, recordRefusal, endRefusal, counted, refuseAt, scan}
 use Rattle.dayfile.proofs.codec.Laws.{length-records, record-at}
-use Rattle.dayfile.proofs.scan.Laws.{Kept, kept-start, kept-after, accepted, scan-stops, scan-goes-on, scan-ends}
+use Rattle.dayfile.proofs.scan.Laws.{Progress, progress-start, progress-after, accepted, scan-stops, scan-goes-on, scan-ends}
 use Rattle.dayfile.proofs.scan.scan.Statement.{statement}
 use Rattle.dayfile.proofs.scan.scan.Tie as tie
 
 -- the loop's invariant: what has been read, and the index of the next record
 record Scanned (bs : List ℕ) (s : State) (i : ℕ) : Type 0 where
   most : i ≤ length bs / 12
-  kept : Kept s i
+  kept : Progress s i
   same : scan i s (drop i (records bs)) ≡ scan 0 start (records bs)
 
 module _ (bs : List ℕ) (s : State) (i : ℕ) (r : Record) (p : Scanned bs s i) (lt : i < length bs / 12) (e : r ≡ decode (drop (12 * i) bs)) where
@@ -39,7 +39,7 @@ module _ (bs : List ℕ) (s : State) (i : ℕ) (r : Record) (p : Scanned bs s i)
       subst⁻¹ (λ (u : State). Scanned bs u (i + 1)) f
       (record {
         most = omega arith;
-        kept = kept-after s r i (accepted s r q) (p .kept);
+        kept = progress-after s r i (accepted s r q) (p .kept);
         same = sym (scan-goes-on (records bs) i s r inside here q) ∙ p .same;
       })
 
@@ -56,7 +56,7 @@ abbrev μ-loop : tie.MeasureT-loop
 μ-loop bytes s₀ count i₀ s i = length bytes / 12 - i
 
 loop-holds : tie.Need-loop-holds Inv-loop μ-loop
-loop-holds c = record { most = zero-le; kept = kept-start; same = refl }
+loop-holds c = record { most = zero-le; kept = progress-start; same = refl }
 
 mul-read : tie.Need-mul-read Inv-loop μ-loop
 mul-read c = search needs

@@ -7,13 +7,13 @@ use borrow.Author.Needs.{needs}
 use Rattle.base.specs.Tests.{allBelow}
 use Rattle.base.proofs.Numbers.{holds, stops}
 use Rattle.base.proofs.Tests.{Passed, begun, turned, ended, below-fails}
-use Rattle.road.specs.Table.{distance, legRule}
+use Rattle.road.specs.Table.{metresOf, legRule}
 use Rattle.road.proofs.legs.test.Statement.{statement}
 use Rattle.road.proofs.legs.test.Tie as tie
 
 -- what the loop tests of each place
 abbrev rule : List (List ℕ) → ℕ → ℕ → Bool
-rule table places = λ u. allBelow places (legRule (distance table) u)
+rule table places = λ u. allBelow places (legRule (metresOf table) u)
 
 abbrev Inv-loop : tie.InvT-loop
 Inv-loop table places u₀ u = Passed places (rule table places) u

@@ -6,13 +6,13 @@ use mathlib.Core.List.{List}
 use borrow.Author.Needs.{needs}
 use Rattle.base.proofs.Numbers.{holds, stops}
 use Rattle.base.proofs.Tests.{Passed, begun, turned, ended, below-fails}
-use Rattle.road.specs.Table.{distance, legRule}
+use Rattle.road.specs.Table.{metresOf, legRule}
 use Rattle.road.proofs.legs.test_from.Statement.{statement}
 use Rattle.road.proofs.legs.test_from.Tie as tie
 
 -- what the loop tests of each place
 abbrev rule : List (List ℕ) → ℕ → ℕ → Bool
-rule table u = legRule (distance table) u
+rule table u = legRule (metresOf table) u
 
 abbrev Inv-loop : tie.InvT-loop
 Inv-loop table places u v₀ v = Passed places (rule table u) v

@@ -2,7 +2,7 @@
 -- different places have the same way there and back.
 -- Assumes nothing.
 use borrow.Author.Needs.{needs}
-use Rattle.road.specs.Table.{distance}
+use Rattle.road.specs.Table.{metresOf}
 use Rattle.road.proofs.Table.{self-leg-zero, self-leg-long, leg-even, leg-uneven}
 use Rattle.road.proofs.legs.test_leg.Statement.{statement}
 use Rattle.road.proofs.legs.test_leg.Tie as tie
@@ -22,12 +22,12 @@ index-2-there c = search needs
 returns : tie.Need-returns
 returns c =
     let a = c .before .before .before .args in
-    rw (self-leg-zero (distance (a .table .now)) (a .u) (a .v) (c .before .if1 .taken) (c .if2 .taken))
+    rw (self-leg-zero (metresOf (a .table .now)) (a .u) (a .v) (c .before .if1 .taken) (c .if2 .taken))
 
 returns-2 : tie.Need-returns-2
 returns-2 c =
     let a = c .before .before .before .args in
-    rw (self-leg-long (distance (a .table .now)) (a .u) (a .v) (c .before .if1 .taken) (c .if2 .left))
+    rw (self-leg-long (metresOf (a .table .now)) (a .u) (a .v) (c .before .if1 .taken) (c .if2 .left))
 
 mul-if3 : tie.Need-mul-if3
 mul-if3 c = search needs
@@ -47,13 +47,13 @@ test-metres-requires c κs = search needs
 returns-3 : tie.Need-returns-3
 returns-3 c =
     let a = c .before .before .before .before .before .args in
-    rw (leg-even (distance (a .table .now)) (a .u) (a .v) (c .before .before .before .if1 .left) (c .before .if3 .taken))
+    rw (leg-even (metresOf (a .table .now)) (a .u) (a .v) (c .before .before .before .if1 .left) (c .before .if3 .taken))
     (c .test-metres .ensures)
 
 returns-4 : tie.Need-returns-4
 returns-4 c =
     let a = c .before .before .before .before .args in
-    rw (leg-uneven (distance (a .table .now)) (a .u) (a .v) (c .before .before .if1 .left) (c .if3 .left))
+    rw (leg-uneven (metresOf (a .table .now)) (a .u) (a .v) (c .before .before .if1 .left) (c .if3 .left))
 
 pub test-leg-spec : {M : Type 1} → statement M
 test-leg-spec =

@@ -8,13 +8,13 @@ use borrow.Author.Needs.{needs}
 use native.Mathlib.Nat.{le-antisymm}
 use native.Mathlib.Numerals.{add-one}
 use Rattle.base.specs.Tests.{allBelow}
-use Rattle.road.specs.Table.{distance, wayRule}
+use Rattle.road.specs.Table.{metresOf, wayRule}
 use Rattle.road.proofs.triangles.test_by.Statement.{statement}
 use Rattle.road.proofs.triangles.test_by.Tie as tie
 
 -- what the loop tests of each place
 abbrev rule : List (List ℕ) → ℕ → ℕ → ℕ → Bool
-rule table u v = wayRule (distance table) u v
+rule table u v = wayRule (metresOf table) u v
 
 abbrev Inv-loop : tie.InvT-loop
 Inv-loop table places u v kept₀ w₀ kept w = (w ≤ places) × (allBelow w (rule table u v) ≡ kept)

@@ -7,13 +7,13 @@ use borrow.Author.Needs.{needs}
 use Rattle.base.specs.Tests.{allBelow}
 use Rattle.base.proofs.Numbers.{holds, stops}
 use Rattle.base.proofs.Tests.{Passed, begun, turned, ended, below-fails}
-use Rattle.road.specs.Table.{distance, wayRule}
+use Rattle.road.specs.Table.{metresOf, wayRule}
 use Rattle.road.proofs.triangles.test_from.Statement.{statement}
 use Rattle.road.proofs.triangles.test_from.Tie as tie
 
 -- what the loop tests of each place
 abbrev rule : List (List ℕ) → ℕ → ℕ → ℕ → Bool
-rule table places u = λ v. allBelow places (wayRule (distance table) u v)
+rule table places u = λ v. allBelow places (wayRule (metresOf table) u v)
 
 abbrev Inv-loop : tie.InvT-loop
 Inv-loop table places u v₀ v = Passed places (rule table places u) v
