@@ -54,6 +54,9 @@ module _ {A : Type 0} where
   pub take-padded : (m n : ℕ) (f : ℕ → A) (z : A) → take n (padded m n f z) ≡ upTo n f
   take-padded m n f z = take-at (upTo n f) _ n (length-upTo n f)
 
+  pub length-padded : (m n : ℕ) (f : ℕ → A) (z : A) → n ≤ m → length (padded m n f z) ≡ m
+  length-padded m n f z h = simp (length-append, length-upTo, length-replicate) (omega arith)
+
   pub replicate-at : (n i : ℕ) (z : A) → getD (replicate n z) i z ≡ z
   replicate-at zero i z = refl
   replicate-at (suc n) zero z = refl

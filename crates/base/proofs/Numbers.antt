@@ -63,6 +63,12 @@ pub zeros-told : {A : Type 0} (n : ℕ) (values : A) (zeros : ℕ → A) → (n 
 zeros-told zero values zeros h = absurd (h refl)
 zeros-told (suc n) values zeros h = refl
 
+-- an answer whose number is 0 is that of an accepted input
+pub accepted-values : {A : Type 0} (n : ℕ) (values : A) (zeros : ℕ → A) (told : A → ℕ) → ((m : ℕ) → told (zeros m) ≡ m)
+    → told (unlessRefused n values zeros) ≡ 0 → n ≡ 0
+accepted-values zero values zeros told numbered h = refl
+accepted-values (suc n) values zeros told numbered h = sym (numbered (suc n)) ∙ h
+
 -- a test that is known to accept, asked again, leaves the next to decide
 pub asked-again : (s t n : ℕ) → s ≡ 0 → n ≡ (s then t) → n ≡ t
 asked-again s t n e h = h ∙ ap (λ (k : ℕ). k then t) e

@@ -19,15 +19,15 @@ use Rattle.workfunction.specs.Serving.{Served, servedBy}
 use Rattle.workfunction.proofs.Choice.{choice-below}
 use Rattle.workfunction.proofs.Sums.{entry-in}
 use Rattle.book.specs.declared.Book.{Book}
-use Rattle.book.specs.Book.{startsOf, standsOf, requestsOf, stopsOf, follower, weight, SameBook, bookRefusal}
+use Rattle.book.specs.Book.{startsOf, standsOf, requestsOf, stopsOf, follower, weight, BookArrays, SameBook, bookRefusal}
 use Rattle.book.specs.Insertion.{Kept, Answered, Unmoved}
 use Rattle.book.specs.Legs.{LegTable}
 use Rattle.book.specs.Serving.{tidied, bookAfter, figuresOf, Outcome, Next}
-use Rattle.book.proofs.Sound.{Arrays, Fits, starts-long, requests-long, stops-long, Sound, sound-book, sound-metric}
+use Rattle.book.proofs.Sound.{Fits, starts-long, requests-long, stops-long, Sound, sound-book, sound-metric}
 use Rattle.book.proofs.Sound.{sound-roads, sound-fits, sound-cranes, sound-instance, sound-asked, sound-standing}
 use Rattle.book.proofs.legs.Laws.{same-costs}
 
-module _ {book : Book} {n : ℕ} {d : ℕ → ℕ → ℕ} (arrays : Arrays book) (s : Sound book n d) where
+module _ {book : Book} {n : ℕ} {d : ℕ → ℕ → ℕ} (arrays : BookArrays book) (s : Sound book n d) where
   -- a sound book with the table of what is read off its roads
   pub sound-kept : {costs : List ℕ} → 272 ≤ length (book .plan) → 272 ≤ length (book .weights) → 272 * 272 ≤ length costs
       → LegTable (entry d) (startsOf book) (requestsOf book) (standsOf book) costs
@@ -80,7 +80,7 @@ after book r stands plan weights =
       weights = weights;
     }
 
-module _ {book : Book} {n : ℕ} {d : ℕ → ℕ → ℕ} (arrays : Arrays book) (s : Sound book n d) {r : ℕ} (on : r < n) (space : book .calls < 256)
+module _ {book : Book} {n : ℕ} {d : ℕ → ℕ → ℕ} (arrays : BookArrays book) (s : Sound book n d) {r : ℕ} (on : r < n) (space : book .calls < 256)
     {told : Served} {stands plan : List ℕ} {weights : List ℤ} {costs : List ℕ}
     (answered : Answered n d (startsOf book) (requestsOf book) (standsOf book) r told stands plan weights costs) where
   sent : told .crane ≡ choice d n (startsOf book) (requestsOf book) (standsOf book) r

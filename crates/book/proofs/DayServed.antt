@@ -21,13 +21,13 @@ use Rattle.workfunction.specs.Serving.{Served, servedBy, served, serve}
 use Rattle.workfunction.proofs.Choice.{choice-below}
 use Rattle.workfunction.proofs.Sums.{sum-last}
 use Rattle.book.specs.declared.Book.{Book}
-use Rattle.book.specs.Book.{startsOf, standsOf, requestsOf, freshBook}
+use Rattle.book.specs.Book.{startsOf, standsOf, requestsOf, BookArrays, freshBook}
 use Rattle.book.specs.Insertion.{Roads, Asked, Kept, Answered, DayAnswered}
 use Rattle.book.specs.Legs.{LegTable}
 use Rattle.book.specs.Serving.{unserved, nth, DayFigures, servedDay}
 use Rattle.book.proofs.Carried.{sound-kept}
 use Rattle.book.proofs.Fresh.{fresh-sound}
-use Rattle.book.proofs.Sound.{Arrays, Fits, placed, Sound, book-sound, sound-fits, sound-asked}
+use Rattle.book.proofs.Sound.{Fits, placed, Sound, book-sound, sound-fits, sound-asked}
 
 -- ---- call by call
 
@@ -119,7 +119,7 @@ pub record FreshDay (day : Day) (d : ℕ → ℕ → ℕ) (book : Book) : Type 0
   pub starts : length (day .starts) ≡ 16
   pub requests : length (day .requests) ≡ 256
   pub fresh : book ≡ freshBook (day .cranes) (day .starts)
-  pub arrays : Arrays book
+  pub arrays : BookArrays book
   pub plan : length (book .plan) ≡ 272
   pub weights : length (book .weights) ≡ 272
 

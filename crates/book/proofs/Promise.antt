@@ -1,6 +1,6 @@
--- The third promise: what the two costs of a sound book, the figures of a served call and those of a served day say of every
--- movement and of every rearrangement, several cranes at a time included. Assumes nothing.
-use Prim.Native.Nat.{ℕ, suc, _+_, _<_, _≤_}
+-- The third promise: what the two costs of a sound book, the figures of a served call and those of a served day are the least of:
+-- of every movement and of every rearrangement, several cranes at a time included. Assumes nothing.
+use Prim.Native.Nat.{ℕ, suc, _+_, _<_}
 use mathlib.Core.List.{List, []}
 use mathlib.Core.Path.{_≡_, refl, sym, _∙_}
 use borrow.Author.Tests.{ltb-true}
@@ -10,29 +10,24 @@ use lib.Seq.{length-take-le}
 use Rattle.base.proofs.Lists.{getD-padded}
 use Rattle.base.proofs.Numbers.{then-zero, first-of}
 use Rattle.dayfile.specs.declared.Day.{Day}
-use Rattle.dayfile.specs.Day.{dayStarts, dayRequests, dayRefusal}
+use Rattle.dayfile.specs.Day.{dayStarts, dayRequests, DayArrays, dayRefusal}
 use Rattle.dayfile.proofs.Limits.{Tested, day-tested}
 use Rattle.workfunction.specs.Choice.{moveSum, rearrangementSum}
-use Rattle.workfunction.specs.Movement.{Instance, Serves, Movement, cost, work, floor}
+use Rattle.workfunction.specs.Least.{IsLeast}
+use Rattle.workfunction.specs.Movement.{Instance, Serves, LeastTo, LeastOfAll, work, floor}
 use Rattle.workfunction.specs.Plan.{planCost, legCost}
-use Rattle.workfunction.specs.Position.{Position}
 use Rattle.workfunction.specs.Serving.{servedBy, standsAfter}
 use Rattle.workfunction.proofs.Choice.{choice-least}
-use Rattle.workfunction.proofs.Movement.{work-attained, work-below, floor-attained, floor-below, instance-first}
+use Rattle.workfunction.proofs.Movement.{work-least, floor-least, instance-first}
 use Rattle.workfunction.proofs.Serving.{serve-least}
 use Rattle.book.specs.declared.Book.{Book}
-use Rattle.book.specs.Book.{startsOf, standsOf, requestsOf, stopsOf, follower, bookRefusal}
+use Rattle.book.specs.Book.{startsOf, standsOf, requestsOf, stopsOf, follower, BookArrays, bookRefusal}
 use Rattle.book.specs.Serving.{servingRefusal, unserved, figuresOf, costsOf, servedDay}
-use Rattle.book.proofs.Sound.{Arrays, placed, Sound, book-sound, sound-metric, sound-cranes, sound-instance, sound-standing, sound-work}
+use Rattle.book.proofs.Sound.{placed, Sound, book-sound, sound-metric, sound-instance, sound-standing, sound-work}
 
-module _ {book : Book} (arrays : Arrays book) (n : ℕ) (d : ℕ → ℕ → ℕ) where
-  -- a movement of the book that ends at C, by the positions between
-  abbrev Moves : List (List ℕ) → Type 0
-  Moves = Movement n (book .cranes) (requestsOf book)
+-- ---- a book
 
-  abbrev costTo : List (List ℕ) → List ℕ → ℕ
-  costTo = cost d (startsOf book)
-
+module _ {book : Book} (arrays : BookArrays book) (n : ℕ) (d : ℕ → ℕ → ℕ) where
   module _ (accepted : bookRefusal book n d ≡ 0) where
     rules : Sound book n d
     rules = book-sound accepted
@@ -49,49 +44,35 @@ module _ {book : Book} (arrays : Arrays book) (n : ℕ) (d : ℕ → ℕ → ℕ
     pub least-kept : planCost (stopsOf book) (legCost d (startsOf book) (requestsOf book) (standsOf book)) (follower (book .plan)) ≡ costsOf book n d .least
     least-kept = sound-work arrays n d accepted ∙ sym least-is
 
-    -- "some movement (starts, a crane at each call in turn, present stands) costs that"
-    pub least-moves : (M : List (List ℕ)) × Moves M × (costTo M (standsOf book) ≡ costsOf book n d .least)
-    least-moves =
-        let best = work-attained d (sound-instance arrays rules) (standsOf book) in
-        (best .0, rw (sound-cranes arrays rules) at (best .1), best .2 ∙ sym least-is)
+    -- "some movement (starts, a crane at each call in turn, present stands) costs that, and every other, several cranes at a time
+    -- included, costs at least as much"
+    pub book-least : LeastTo d n (startsOf book) (requestsOf book) (standsOf book) (costsOf book n d .least)
+    book-least = rw least-is (work-least d (sound-instance arrays rules) (standsOf book))
 
-    -- "and every other, several cranes at a time included, costs at least as much"
-    pub least-of-all : {M : List (List ℕ)} → Moves M → costsOf book n d .least ≤ costTo M (standsOf book)
-    least-of-all m = rw least-is (work-below d (sound-instance arrays rules) (standsOf book) (rw (sound-cranes arrays rules) m))
-
-    -- "The floor likewise over all ends."
-    pub floor-moves : (C : List ℕ) × (M : List (List ℕ)) × Position n (book .cranes) C × Moves M × (costTo M C ≡ costsOf book n d .floor)
-    floor-moves =
-        let best = floor-attained d (sound-instance arrays rules) in
-        (best .0, best .1, rw (sound-cranes arrays rules) at (best .2), rw (sound-cranes arrays rules) at (best .3), best .4 ∙ sym floor-is)
-
-    pub floor-of-all : {C : List ℕ} {M : List (List ℕ)} → Position n (book .cranes) C → Moves M → costsOf book n d .floor ≤ costTo M C
-    floor-of-all c m =
-        rw floor-is (floor-below d (sound-instance arrays rules) (rw (sound-cranes arrays rules) c) (rw (sound-cranes arrays rules) m))
+    -- "The floor likewise."
+    pub book-floor : LeastOfAll d n (startsOf book) (requestsOf book) (costsOf book n d .floor)
+    book-floor = rw floor-is (floor-least d (sound-instance arrays rules))
 
   -- "No rearrangement with a crane at the next call beats the single move chosen", whose sum is the least after it and the drive
-  pub no-better-rearrangement : (r : ℕ) → servingRefusal book n d r ≡ 0 → {C : List ℕ} → Serves n (book .cranes) r C
-      → figuresOf book n d r .least + figuresOf book n d r .metres ≤ rearrangementSum d n (startsOf book) (requestsOf book) (standsOf book) r C
+  pub call-least : (r : ℕ) → servingRefusal book n d r ≡ 0
+      → IsLeast (Serves n (length (startsOf book)) r) (rearrangementSum d n (startsOf book) (requestsOf book) (standsOf book) r)
+      (figuresOf book n d r .least + figuresOf book n d r .metres)
   unfolding servedBy moveSum
-  no-better-rearrangement r accepted c =
+  call-least r accepted =
       let tested = then-zero (bookRefusal book n d) _ accepted in
       let s : Sound book n d = book-sound (tested .0) in
       let asked = ltb-true r n (first-of (ltb r n) 4 _ (tested .1) .0) in
-      choice-least (sound-metric s) (sound-instance arrays s) (sound-standing arrays s) asked (rw (sound-cranes arrays s) c)
+      choice-least (sound-metric s) (sound-instance arrays s) (sound-standing arrays s) asked
 
 -- ---- a served day
 
-module _ (day : Day) (d : ℕ → ℕ → ℕ) (accepted : dayRefusal day d ≡ 0) (sixteen : length (day .starts) ≡ 16) where
+module _ (day : Day) (d : ℕ → ℕ → ℕ) (arrays : DayArrays day) (accepted : dayRefusal day d ≡ 0) where
   tests : Tested day d
   tests = day-tested day d accepted
 
-  -- the starts of the cranes
-  as-many : length (dayStarts day) ≡ day .cranes
-  as-many = length-take-le (day .cranes) (day .starts) (rw sixteen (tests .counts .cranes))
-
   day-instance : Instance (day .places) (dayStarts day) (dayRequests day)
   day-instance = record {
-    crane = rw as-many (tests .counts .crane);
+    crane = rw (length-take-le (day .cranes) (day .starts) (rw (arrays .starts) (tests .counts .cranes))) (tests .counts .crane);
     started = record { cranes = refl; placed = placed (day .places) (dayStarts day) (tests .starts) };
     called = placed (day .places) (dayRequests day) (tests .requests);
   }
@@ -100,20 +81,12 @@ module _ (day : Day) (d : ℕ → ℕ → ℕ) (accepted : dayRefusal day d ≡ 
   unfolding servedDay
   day-floor-is = rw accepted
 
-  -- some movement that serves the day's calls costs the floor that is told
-  pub day-floor-moves : (C : List ℕ) × (M : List (List ℕ)) × Position (day .places) (day .cranes) C
-      × Movement (day .places) (day .cranes) (dayRequests day) M × (cost d (dayStarts day) M C ≡ servedDay day d .floor)
-  day-floor-moves =
-      let best = floor-attained d day-instance in
-      (best .0, best .1, rw as-many at (best .2), rw as-many at (best .3), best .4 ∙ sym day-floor-is)
-
-  -- and every other, wherever it ends, costs at least as much
-  pub day-floor-of-all : {C : List ℕ} {M : List (List ℕ)} → Position (day .places) (day .cranes) C
-      → Movement (day .places) (day .cranes) (dayRequests day) M → servedDay day d .floor ≤ cost d (dayStarts day) M C
-  day-floor-of-all c m = rw day-floor-is (floor-below d day-instance (rw as-many c) (rw as-many m))
+  -- the floor that is told is the least cost of all movements that serve the day's calls
+  pub day-floor : LeastOfAll d (day .places) (dayStarts day) (dayRequests day) (servedDay day d .floor)
+  day-floor = rw day-floor-is (floor-least d day-instance)
 
   -- the first calls, up to call i, and the stands once it is served
-  module _ (requests : length (day .requests) ≡ 256) (i : ℕ) (called : i < day .calls) where
+  module _ (i : ℕ) (called : i < day .calls) where
     abbrev first : List ℕ
     first = take (suc i) (dayRequests day)
 
@@ -123,18 +96,10 @@ module _ (day : Day) (d : ℕ → ℕ → ℕ) (accepted : dayRefusal day d ≡ 
     day-least-is : getD (servedDay day d .leasts) i 0 ≡ work d (day .places) (dayStarts day) first stands
     unfolding servedDay
     day-least-is =
-        let long = length-take-le (day .calls) (day .requests) (rw requests (tests .counts .calls)) in
+        let long = length-take-le (day .calls) (day .requests) (rw (arrays .requests) (tests .counts .calls)) in
         rw accepted (getD-padded 256 (day .calls) _ 0 0 i called
         ∙ serve-least d (day .places) (dayStarts day) unserved [] (dayStarts day) (dayRequests day) i (rw long called))
 
-    -- some movement that serves them and ends at those stands costs the least that is told of call i
-    pub day-least-moves : (M : List (List ℕ)) × Movement (day .places) (day .cranes) first M
-        × (cost d (dayStarts day) M stands ≡ getD (servedDay day d .leasts) i 0)
-    day-least-moves =
-        let best = work-attained d (instance-first (suc i) day-instance) stands in
-        (best .0, rw as-many at (best .1), best .2 ∙ sym day-least-is)
-
-    -- and every other costs at least as much
-    pub day-least-of-all : {M : List (List ℕ)} → Movement (day .places) (day .cranes) first M
-        → getD (servedDay day d .leasts) i 0 ≤ cost d (dayStarts day) M stands
-    day-least-of-all m = rw day-least-is (work-below d (instance-first (suc i) day-instance) stands (rw as-many m))
+    -- the least that is told of call i is the least cost of all movements that serve them and end at those stands
+    pub day-least : LeastTo d (day .places) (dayStarts day) first stands (getD (servedDay day d .leasts) i 0)
+    day-least = rw day-least-is (work-least d (instance-first (suc i) day-instance) stands)

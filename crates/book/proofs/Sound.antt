@@ -18,15 +18,9 @@ use Rattle.workfunction.specs.Position.{Position}
 use Rattle.workfunction.proofs.Sums.{slot-of}
 use Rattle.workfunction.proofs.Witness.{witness-work}
 use Rattle.book.specs.declared.Book.{Book}
-use Rattle.book.specs.Book.{startsOf, standsOf, requestsOf, stopsOf, follower, weight, rangeRule, bookRefusal}
+use Rattle.book.specs.Book.{startsOf, standsOf, requestsOf, stopsOf, follower, weight, rangeRule, BookArrays, bookRefusal}
 use Rattle.book.specs.Insertion.{Roads, Asked}
 use Rattle.book.proofs.Roads.{roads}
-
--- the lengths that a book's arrays of places have by their types
-pub record Arrays (book : Book) : Type 0 where
-  pub starts : length (book .starts) ≡ 16
-  pub stands : length (book .stands) ≡ 16
-  pub requests : length (book .requests) ≡ 256
 
 -- the counts are within the arrays
 pub record Fits (book : Book) : Type 0 where
@@ -34,7 +28,7 @@ pub record Fits (book : Book) : Type 0 where
   pub stands : book .cranes ≤ length (book .stands)
   pub requests : book .calls ≤ length (book .requests)
 
-pub fit : {book : Book} → Arrays book → book .cranes ≤ 16 → book .calls ≤ 256 → Fits book
+pub fit : {book : Book} → BookArrays book → book .cranes ≤ 16 → book .calls ≤ 256 → Fits book
 fit arrays cranes calls = record {
   starts = rw (arrays .starts) cranes;
   stands = rw (arrays .stands) cranes;
@@ -107,7 +101,7 @@ module _ {book : Book} {n : ℕ} {d : ℕ → ℕ → ℕ} where
       rw (counts-accepted n (book .cranes) (book .calls) (s .counts), s .legs, s .starts, s .requests, s .stands, s .triangles, s .plan)
       (rw (s .range, s .vouched))
 
-  module _ (arrays : Arrays book) (s : Sound book n d) where
+  module _ (arrays : BookArrays book) (s : Sound book n d) where
     pub sound-fits : Fits book
     sound-fits = fit arrays (s .counts .cranes) (s .counts .calls)
 
@@ -135,7 +129,7 @@ module _ {book : Book} {n : ℕ} {d : ℕ → ℕ → ℕ} where
     }
 
 -- a sound book's plan costs w of its stands
-pub sound-work : {book : Book} → Arrays book → (n : ℕ) (d : ℕ → ℕ → ℕ) → bookRefusal book n d ≡ 0
+pub sound-work : {book : Book} → BookArrays book → (n : ℕ) (d : ℕ → ℕ → ℕ) → bookRefusal book n d ≡ 0
     → planCost (stopsOf book) (legCost d (startsOf book) (requestsOf book) (standsOf book)) (follower (book .plan))
     ≡ work d n (startsOf book) (requestsOf book) (standsOf book)
 sound-work {book} arrays n d h =

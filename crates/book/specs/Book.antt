@@ -4,7 +4,7 @@ use mathlib.Core.Bool.{Bool, _&&_}
 use mathlib.Core.List.{List}
 use mathlib.Core.Path.{_≡_}
 use lib.IntN.{ℤ, pos, negsuc}
-use lib.ListN.{getD, take, replicate}
+use lib.ListN.{length, getD, take, replicate}
 use lib.Signed.{leZ}
 use Rattle.base.specs.Lists.{padded}
 use Rattle.base.specs.Numbers.{unless, _then_, unlessRefused, numberOf}
@@ -53,6 +53,12 @@ planRefusal k n plan = unless (planRule k n (follower plan)) 9
 -- "a weight out of range, or the weights don't vouch", c p b being the cost of the leg from p to b
 abbrev pub weightsRefusal : ℕ → ℕ → List ℕ → List ℤ → (ℕ → ℕ → ℕ) → ℕ
 weightsRefusal k n plan weights c = unless (rangeRule n (weight weights) && vouchRule k n (follower plan) c (weight weights)) 10
+
+-- the lengths that a book's arrays of places have by their types: a definition sees an array as a list
+pub record BookArrays (book : Book) : Type 0 where
+  pub starts : length (book .starts) ≡ 16
+  pub stands : length (book .stands) ≡ 16
+  pub requests : length (book .requests) ≡ 256
 
 -- "Entries past the counts, the road table's included, are ignored on the way in": two books are the same if their counts
 -- and the entries within them are.

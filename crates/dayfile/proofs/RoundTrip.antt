@@ -1,17 +1,18 @@
--- The two round trips of document 01: a file that is read and written is the same file, and a day that is written and read is the same day.
--- Assumes nothing.
+-- The two round trips of document 01, of what reading and writing give: a file that is read and written is the same file, and a day
+-- that is written and read is the same day, with the same table. Assumes nothing.
 use Prim.Native.Nat.{ℕ, _+_, _*_, _%_, _<_, _≤_}
 use mathlib.Core.List.{List}
 use mathlib.Core.Path.{_≡_, refl, sym, ap, _∙_}
 use borrow.Author.Tests.{eqb-true, le-leb}
 use lib.Dec.{eqb}
 use lib.ListN.{length, getD}
+use lib.Seq.{take-at}
 use native.Mathlib.Nat.{mul-mod-right}
 use native.Mathlib.Omega.{arith}
 use Rattle.base.specs.Lists.{upTo, splice}
 use Rattle.base.specs.Metric.{Metric}
-use Rattle.base.proofs.Lists.{upTo-same, take-upTo, take-padded}
-use Rattle.base.proofs.Numbers.{unless-zero, first-of}
+use Rattle.base.proofs.Lists.{upTo-same, take-upTo, take-padded, length-padded}
+use Rattle.base.proofs.Numbers.{unless-zero, then-zero, first-of, accepted-values}
 use Rattle.base.proofs.Tests.{by-order}
 use Rattle.road.specs.Table.{metresOf, triangleRule}
 use Rattle.road.proofs.Table.{legs-hold, tested-metric, same-triangles}
@@ -19,8 +20,8 @@ use Rattle.dayfile.specs.declared.Day.{Day}
 use Rattle.dayfile.specs.declared.codec.Record.{Record}
 use Rattle.dayfile.specs.declared.scan.State.{State}
 use Rattle.dayfile.specs.Codec.{records, encodeAll}
-use Rattle.dayfile.specs.Day.{dayStarts, dayRequests, SameDay, dayRefusal, dayRecords}
-use Rattle.dayfile.specs.File.{stopFrom, dayOf, readFile, readTable, dayBytes, writeFile}
+use Rattle.dayfile.specs.Day.{dayStarts, dayRequests, DayArrays, SameDay, dayRefusal, dayRecords}
+use Rattle.dayfile.specs.File.{stopFrom, dayOf, readFile, readTable, Output, bytesWritten, dayBytes, writeRefusal, writeFile}
 use Rattle.dayfile.specs.Legs.{legCount, leg, legTable, legMetres}
 use Rattle.dayfile.specs.Scan.{start, lengthRefusal}
 use Rattle.dayfile.proofs.Answers.{File, file-read, accepted-file}
@@ -96,7 +97,16 @@ file-accepted bs h =
     let t = accepted-file bs h in
     rw (file-read bs (records bs) (t .0) (t .1)) (day-accepted _ _ (day-read bs (records bs) (t .0) (t .1)))
 
--- file → day → file
+-- the day that is read has the arrays of its type
+pub read-arrays : (bs : List ℕ) → readFile bs .number ≡ 0 → DayArrays (readFile bs .day)
+unfolding dayOf
+read-arrays bs h =
+    let t = accepted-file bs h in
+    let counts = day-read bs (records bs) (t .0) (t .1) .counts in
+    rw (file-read bs (records bs) (t .0) (t .1))
+    (record { starts = length-padded 16 _ _ 0 (counts .cranes); requests = length-padded 256 _ _ 0 (counts .calls) })
+
+-- file → day → file: in a buffer that is long enough the same bytes are written
 pub file-round-trip : (bs out : List ℕ) → ((i : ℕ) → getD bs i 0 < 256) → readFile bs .number ≡ 0 → length bs ≤ length out
     → writeFile (readFile bs .day) (metresOf (readTable bs)) out ≡ record { number = 0; length = length bs; buffer = splice 0 bs out }
 unfolding writeFile lengthRefusal dayOf
@@ -128,7 +138,7 @@ table-back all d n a k b m h metric u v p q =
     (λ (e : u ≡ v). between-self all u v e ∙ sym (metric .self u p) ∙ ap (d u) e)
     (λ (l : v < u). between-down all u v l ∙ ap (λ (r : Record). r .metres) (h .legs v u l p) ∙ metric .both-ways v u q p)
 
-module _ (day : Day) (d : ℕ → ℕ → ℕ) (tests : Tested day d) (sixteen : length (day .starts) ≡ 16) (most : length (day .requests) ≡ 256) where
+module _ (day : Day) (d : ℕ → ℕ → ℕ) (tests : Tested day d) (arrays : DayArrays day) where
   abbrev from : ℕ → ℕ
   from j = getD (day .starts) j 0
 
@@ -136,10 +146,10 @@ module _ (day : Day) (d : ℕ → ℕ → ℕ) (tests : Tested day d) (sixteen :
   to j = getD (day .requests) j 0
 
   starts-written : dayStarts day ≡ upTo (day .cranes) from
-  starts-written = take-upTo (day .cranes) (day .starts) 0 (omega arith)
+  starts-written = take-upTo (day .cranes) (day .starts) 0 (omega (arith, arrays .starts))
 
   requests-written : dayRequests day ≡ upTo (day .calls) to
-  requests-written = take-upTo (day .calls) (day .requests) 0 (omega arith)
+  requests-written = take-upTo (day .calls) (day .requests) 0 (omega (arith, arrays .requests))
 
   abbrev rs : List Record
   rs = laid d (day .places) from (day .cranes) to (day .calls)
@@ -182,7 +192,11 @@ module _ (day : Day) (d : ℕ → ℕ → ℕ) (tests : Tested day d) (sixteen :
       rw (day-laid day d from to starts-written requests-written)
       (record { number = rw e; same = rw e same-day; metres = λ u v p q. rw (e, written .same) (table u v p q) })
 
--- day → file → day
-pub day-round-trip : (day : Day) (d : ℕ → ℕ → ℕ) → dayRefusal day d ≡ 0 → length (day .starts) ≡ 16 → length (day .requests) ≡ 256
-    → Back day d (dayBytes day d)
-day-round-trip day d h sixteen most = back day d (day-tested day d h) sixteen most
+-- day → file → day: where a day is written, what is read of the bytes written is the same day, with the same table
+pub day-round-trip : (day : Day) (d : ℕ → ℕ → ℕ) (out : List ℕ) → DayArrays day → writeFile day d out .number ≡ 0
+    → Back day d (bytesWritten (writeFile day d out))
+unfolding writeFile splice
+day-round-trip day d out arrays h =
+    let none : writeRefusal day d out ≡ 0 = accepted-values {A = Output} _ _ (λ n. record { number = n; length = 0; buffer = out }) (λ o. o .number) (λ n. refl) h in
+    let accepted : dayRefusal day d ≡ 0 = then-zero _ _ none .0 in
+    rw (none, take-at (dayBytes day d) _ _ refl) (back day d (day-tested day d accepted) arrays)

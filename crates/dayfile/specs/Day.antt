@@ -39,6 +39,11 @@ dayStarts day = take (day .cranes) (day .starts)
 abbrev pub dayRequests : Day → List ℕ
 dayRequests day = take (day .calls) (day .requests)
 
+-- the lengths that a day's arrays have by their types: a definition sees an array as a list
+pub record DayArrays (day : Day) : Type 0 where
+  pub starts : length (day .starts) ≡ 16
+  pub requests : length (day .requests) ≡ 256
+
 -- "Two days are the same if their counts and the entries within them are."
 pub record SameDay (a b : Day) : Type 0 where
   pub places : a .places ≡ b .places

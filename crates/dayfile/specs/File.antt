@@ -2,7 +2,7 @@
 use Prim.Native.Nat.{ℕ, _+_}
 use mathlib.Core.List.{List}
 use lib.Dec.{leb}
-use lib.ListN.{length, getD, replicate}
+use lib.ListN.{length, getD, take, replicate}
 use Rattle.base.specs.Lists.{padded, splice}
 use Rattle.base.specs.Numbers.{numberOf, unless, _then_, unlessRefused}
 use Rattle.road.specs.Table.{metresOf, triangleRefusal}
@@ -73,6 +73,10 @@ pub record Output : Type 0 where
   pub number : ℕ
   pub length : ℕ
   pub buffer : List ℕ
+
+-- the bytes that were written
+abbrev pub bytesWritten : Output → List ℕ
+bytesWritten o = take (o .length) (o .buffer)
 
 abbrev pub written : Written → List ℕ → Output
 written r out = record { number = numberOf (r .verdict); length = r .length; buffer = out }

@@ -1,4 +1,5 @@
--- The definitions compute. Days of document 01 with what it says of them, plans and weights with what their rules say.
+-- The definitions compute: days with what becomes of them, plans and weights with what their rules say. The cases of document 01
+-- stand in `edges`.
 -- Assumes nothing.
 use Prim.Native.Nat.{ℕ}
 use mathlib.Core.Bool.{Bool, true, false}
@@ -33,14 +34,8 @@ pub data Day : Type 0 where
 
 unfoldable pub days : List Day
 days =
-    -- case A
-    day (three 10 20 15) (0 ∷ 2 ∷ []) (1 ∷ 0 ∷ 1 ∷ []) (served 0 10 10 ∷ served 0 10 20 ∷ served 1 15 15 ∷ []) 15 ∷
-    -- "one place, one crane, one call at 0: crane 0, metres 0, least 0"
-    day ((0 ∷ []) ∷ []) (0 ∷ []) (0 ∷ []) (served 0 0 0 ∷ []) 0 ∷
-    -- "legs 10, 20, 10, cranes at 0 and 2, call 1: both give 20; crane 0"
-    day (three 10 20 10) (0 ∷ 2 ∷ []) (1 ∷ []) (served 0 10 10 ∷ []) 10 ∷
-    -- "two cranes at 0, call at 1 by a leg of 7: crane 0, metres 7"
-    day ((0 ∷ 7 ∷ []) ∷ (7 ∷ 0 ∷ []) ∷ []) (0 ∷ 0 ∷ []) (1 ∷ []) (served 0 7 7 ∷ []) 7 ∷
+    -- at the last call crane 1 is nearer, crane 0 goes, and the least falls
+    day (three 3 5 4) (2 ∷ 1 ∷ []) (0 ∷ 1 ∷ 0 ∷ []) (served 1 3 3 ∷ served 1 3 6 ∷ served 0 5 5 ∷ []) 5 ∷
     -- a day without calls
     day (three 10 20 15) (0 ∷ 2 ∷ []) [] [] 0 ∷
     -- at the last call both cranes give 4, and crane 1 drives less
@@ -57,11 +52,6 @@ told (day _ _ _ lines lowest) = (lines, lowest)
 pub days-agree : map found days ≡ map told days
 unfolding days found told upTo minimum insertions permutations filter leastBy sections positions pairing distance contains movements cost work floor flatMap headD drive moveSum preferred choice servedBy serve
 days-agree = refl
-
--- "both give 20"
-pub equal-sums : map (moveSum (metres (three 10 20 10)) 3 (0 ∷ 2 ∷ []) [] (0 ∷ 2 ∷ []) 1) (0 ∷ 1 ∷ []) ≡ 20 ∷ 20 ∷ []
-unfolding upTo minimum insertions permutations filter sections positions pairing distance contains movements cost work flatMap drive moveSum
-equal-sums = refl
 
 -- where steps out of stands count: starts 2, 0, 0 and calls 1 and 0 leave the cranes at 1, 0, 0, and a call at 2 is crane 1's
 pub out-of-stands : choice (metres (three 3 1 3)) 3 (2 ∷ 0 ∷ 0 ∷ []) (1 ∷ 0 ∷ []) (1 ∷ 0 ∷ 0 ∷ []) 2 ≡ 1

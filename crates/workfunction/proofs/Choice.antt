@@ -9,6 +9,7 @@ use native.Mathlib.Nat.{zero-add, le-antisymm, le-refl, le-trans}
 use native.Mathlib.Omega.{arith}
 use Rattle.base.specs.Lists.{upTo}
 use Rattle.base.specs.Metric.{Metric}
+use Rattle.workfunction.specs.Least.{IsLeast}
 use Rattle.workfunction.specs.Lists.{filter, leastBy}
 use Rattle.workfunction.specs.Position.{Position}
 use Rattle.workfunction.specs.Movement.{Instance, Serves}
@@ -135,32 +136,41 @@ module _ {n : ℕ} {d : ℕ → ℕ → ℕ} (laws : Metric n d) {starts calls s
   unfolding choice
   choice-below = preferred-below _ _ (length stands) crane
 
-  -- no rearrangement has a lower sum than the single move chosen
-  pub choice-least : {C : List ℕ} → Serves n (length starts) r C
-      → moveSum d n starts calls stands r (choice d n starts calls stands r) ≤ rearrangementSum d n starts calls stands r C
+  abbrev chosen : ℕ
+  chosen = choice d n starts calls stands r
+
+  no-lower : {C : List ℕ} → Serves n (length starts) r C
+      → moveSum d n starts calls stands r chosen ≤ rearrangementSum d n starts calls stands r C
   unfolding choice
-  choice-least h =
+  no-lower h =
       let one = lazy h in
       le-trans (preferred-sum (moveSum d n starts calls stands r) (drive d stands r) (length stands) crane (one .0) (one .1)) (one .2)
 
-  -- nor has any other position, which makes the choice that of equation (1) of source document 000, over all positions
-  pub choice-minimal : {C : List ℕ} → Position n (length starts) C
-      → moveSum d n starts calls stands r (choice d n starts calls stands r) ≤ rearrangementSum d n starts calls stands r C
+  none-lower : {C : List ℕ} → Position n (length starts) C
+      → moveSum d n starts calls stands r chosen ≤ rearrangementSum d n starts calls stands r C
   unfolding rearrangementSum
-  choice-minimal {C} c =
+  none-lower {C} c =
       let last = work-last calls r laws (instance-then day asked) C in
       let x = last .1 .0 in
-      let best = choice-least (last .1) in
+      let best = no-lower (last .1) in
       let way = distance-triangle laws standing c x in
       let flip = distance-flip laws c x in
       let sum = last .2 in
       omega arith
 
-  -- and the position that it leads to attains it
-  pub choice-attained : rearrangementSum d n starts calls stands r (moved stands r (choice d n starts calls stands r))
-      ≡ moveSum d n starts calls stands r (choice d n starts calls stands r)
+  moved-serves : Serves n (length starts) r (moved stands r chosen)
+  moved-serves = (position-set stands chosen r asked standing, set-in stands chosen r choice-below)
+
+  moved-sum : rearrangementSum d n starts calls stands r (moved stands r chosen) ≡ moveSum d n starts calls stands r chosen
   unfolding moveSum rearrangementSum drive
-  choice-attained =
-      let s = choice d n starts calls stands r in
-      let near = distance-moved laws stands s r standing choice-below asked in
-      le-antisymm (omega arith) (choice-least (position-set stands s r asked standing, set-in stands s r choice-below))
+  moved-sum =
+      let near = distance-moved laws stands chosen r standing choice-below asked in
+      le-antisymm (omega arith) (no-lower moved-serves)
+
+  -- the sum of the single move chosen is the least of all rearrangements
+  pub choice-least : IsLeast (Serves n (length starts) r) (rearrangementSum d n starts calls stands r) (moveSum d n starts calls stands r chosen)
+  choice-least = record { attained = (moved stands r chosen, moved-serves, moved-sum); below = λ C h. no-lower h }
+
+  -- and of all positions, with a crane at the call or not: the choice is that of equation (1) of source document 000
+  pub choice-minimal : IsLeast (Position n (length starts)) (rearrangementSum d n starts calls stands r) (moveSum d n starts calls stands r chosen)
+  choice-minimal = record { attained = (moved stands r chosen, moved-serves .0, moved-sum); below = λ C c. none-lower c }

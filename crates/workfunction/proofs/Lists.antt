@@ -1,5 +1,5 @@
--- The laws of the finite choices: what a least is, and which lists the enumerations have. An order of a list is its
--- permutation, List·Permᴰ. Assumes nothing.
+-- The laws of the finite choices: the minimum of a list is its least, and which lists the enumerations have. An order of a
+-- list is its permutation, List·Permᴰ. Assumes nothing.
 use Prim.Native.Nat.{ℕ, zero, suc, _<_, _≤_, min, zero-le, suc-le-suc}
 use mathlib.Core.Bool.{Bool, true, false, cond}
 use mathlib.Core.List.{List, [], _∷_, _++_, map, flatMap, Forall₂, Forall₂·nil, Forall₂·cons}
@@ -16,9 +16,10 @@ use native.Mathlib.Decide.{decLe}
 use native.Mathlib.Nat.{le-antisymm, le-refl, le-trans, min-le-left, min-le-right, min-eq-left, min-eq-right, not-suc-le-zero, le-of-suc-le-suc}
 use native.Mathlib.Omega.{arith}
 use Rattle.base.specs.Lists.{upTo}
+use Rattle.workfunction.specs.Least.{IsLeast}
 use Rattle.workfunction.specs.Lists.{minimum, insertions, permutations, filter, leastBy, sections}
 
--- the least of a list is in it, and none of its numbers is lower
+-- the minimum of a list is in it, and none of its numbers is lower
 minimum-in : (a : ℕ) (l : List ℕ) → List·Memᴰ (minimum (a ∷ l)) (a ∷ l)
 unfolding minimum
 minimum-in a [] = List·Memᴰ·head refl
@@ -37,15 +38,15 @@ minimum-le (b ∷ c ∷ l) h =
     (List·Memᴰ·cases-cons h)
 
 module _ {A : Type 0} where
-  -- the least of f over a list: some element attains it, and none is below
-  pub minimum-attained : (f : A → ℕ) {a : A} (l : List A) → List·Memᴰ a l → (b : A) × List·Memᴰ b l × (f b ≡ minimum (map f l))
+  minimum-attained : (f : A → ℕ) {a : A} (l : List A) → List·Memᴰ a l → (b : A) × List·Memᴰ b l × (f b ≡ minimum (map f l))
   minimum-attained f [] h = absurd (List·Memᴰ·not-nil h)
   minimum-attained f (b ∷ l) h = Memᴰ·of-map f (b ∷ l) (minimum-in (f b) (map f l))
 
-  pub minimum-below : (f : A → ℕ) {a : A} (l : List A) → List·Memᴰ a l → minimum (map f l) ≤ f a
-  minimum-below f l h = minimum-le (map f l) (Memᴰ·map f h)
+  -- the minimum of f over a list that is not empty is its least there
+  pub minimum-least : (f : A → ℕ) {a : A} (l : List A) → List·Memᴰ a l → IsLeast (λ b. List·Memᴰ b l) f (minimum (map f l))
+  minimum-least f l h = record { attained = minimum-attained f l h; below = λ b m. minimum-le (map f l) (Memᴰ·map f m) }
 
-  -- keep has just the elements that pass
+  -- filter has just the elements that pass
   pub filter-in : (P : A → Bool) {a : A} {l : List A} → P a ≡ true → List·Memᴰ a l → List·Memᴰ a (filter P l)
   unfolding filter
   filter-in P {a} t (List·Memᴰ·head {x} e) = rw (subst (λ (b : A). P b ≡ true) e t) (List·Memᴰ·head e)
@@ -72,21 +73,23 @@ module _ {A : Type 0} where
       → List·Memᴰ a (leastBy f l)
   unfolding leastBy
   leastBy-in f {a} {l} m low =
-      let best = minimum-attained f l m in
+      let least = minimum-least f l m in
+      let best = least .attained in
       let le = low (best .0) (best .1) in
-      filter-in _ (eq-eqb (f a) (minimum (map f l)) (le-antisymm (rw (best .2) at le) (minimum-below f l m))) m
+      filter-in _ (eq-eqb (f a) (minimum (map f l)) (le-antisymm (rw (best .2) at le) (least .below a m))) m
 
   pub in-leastBy : (f : A → ℕ) {a : A} (l : List A) → List·Memᴰ a (leastBy f l)
       → List·Memᴰ a l × ((b : A) → List·Memᴰ b l → f a ≤ f b)
   unfolding leastBy
   in-leastBy f {a} l m =
       let out = in-filter (λ a. eqb (f a) (minimum (map f l))) l m in
-      (out .0, λ b h. rw (eqb-true (f a) (minimum (map f l)) (out .1)) (minimum-below f l h))
+      (out .0, λ b h. rw (eqb-true (f a) (minimum (map f l)) (out .1)) (minimum-least f l h .below b h))
 
   pub leastBy-some : (f : A → ℕ) {a : A} {l : List A} → List·Memᴰ a l → (b : A) × List·Memᴰ b (leastBy f l)
   leastBy-some f {a} {l} m =
-      let best = minimum-attained f l m in
-      (best .0, leastBy-in f (best .1) (λ b h. rw (best .2) (minimum-below f l h)))
+      let least = minimum-least f l m in
+      let best = least .attained in
+      (best .0, leastBy-in f (best .1) (λ b h. rw (best .2) (least .below b h)))
 
   -- a list by its indices has just the values of its rule
   pub upTo-in : (n : ℕ) (f : ℕ → A) (i : ℕ) → i < n → List·Memᴰ (f i) (upTo n f)
@@ -116,7 +119,7 @@ module _ {A B : Type 0} (g : A → List B) where
       (List·Memᴰ·append-cases (g a) h)
 
 module _ {A : Type 0} where
-  -- choices has just the lists that take one element from each list in turn
+  -- sections has just the lists that take one element from each list in turn
   pub sections-in : {t : List A} {ls : List (List A)} → Forall₂ (λ a l. List·Memᴰ a l) t ls → List·Memᴰ t (sections ls)
   unfolding sections
   sections-in Forall₂·nil = List·Memᴰ·head refl
@@ -130,7 +133,7 @@ module _ {A : Type 0} where
       let rest = Memᴰ·of-map (λ t. out .0 ∷ t) (sections ls) (out .2) in
       subst (λ u. Forall₂ (λ a (l : List A). List·Memᴰ a l) u (l ∷ ls)) (rest .2) (Forall₂·cons (out .1) (in-sections ls (rest .1)))
 
--- orders has just the orders of a list
+-- permutations has just the orders of a list
 in-insertions : (a : ℕ) (l : List ℕ) {t : List ℕ} → List·Memᴰ t (insertions a l) → List·Permᴰ (a ∷ l) t
 unfolding insertions
 in-insertions a [] h = ⊎-elim (λ e. rw e (Permᴰ·refl (a ∷ []))) (λ m. absurd (List·Memᴰ·not-nil m)) (List·Memᴰ·cases-cons h)

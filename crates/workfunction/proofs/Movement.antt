@@ -1,5 +1,5 @@
--- The work function: attained by a movement, at most the cost of every movement, the same for every order of the end, and
--- no more at another end than at one plus the distance between them. The floor likewise, over all ends. Assumes nothing.
+-- The work function: the least cost of all movements to an end, the same for every order of the end, and no more at another end
+-- than at one plus the distance between them. The floor likewise, over all ends. Assumes nothing.
 use Prim.Native.Nat.{ℕ, zero, suc, _+_, _<_, _≤_, zero-le}
 use mathlib.Core.Bool.{Bool, true, false, _||_, or-true, false≢true}
 use mathlib.Core.List.{List, [], _∷_, _++_, map, List·Permᴰ, Permᴰ·symm, Forall₂, Forall₂·nil, Forall₂·cons}
@@ -15,8 +15,8 @@ use native.Mathlib.Omega.{arith}
 use Rattle.base.specs.Metric.{Metric}
 use Rattle.workfunction.specs.Lists.{minimum, filter, sections}
 use Rattle.workfunction.specs.Position.{Position, positions, distance}
-use Rattle.workfunction.specs.Movement.{Instance, Serves, Movement, contains, movements, cost, work, floor}
-use Rattle.workfunction.proofs.Lists.{minimum-attained, minimum-below, filter-in, in-filter, sections-in, in-sections}
+use Rattle.workfunction.specs.Movement.{Instance, Serves, Movement, contains, movements, cost, LeastTo, LeastOfAll, work, floor}
+use Rattle.workfunction.proofs.Lists.{minimum-least, filter-in, in-filter, sections-in, in-sections}
 use Rattle.workfunction.proofs.Position.{distance-right, distance-self, distance-triangle, positions-in, in-positions}
 
 contains-yes : {r : ℕ} {C : List ℕ} → List·Memᴰ r C → contains r C ≡ true
@@ -83,24 +83,23 @@ some-movement n (suc k) (r ∷ calls) crane on =
     (replicate (suc k) r ∷ rest .0, Forall₂·cons (here, List·Memᴰ·head refl) (rest .1))
 
 module _ (d : ℕ → ℕ → ℕ) {n : ℕ} {starts calls : List ℕ} (day : Instance n starts calls) where
-  -- w(C) is the cost of some movement that ends at C, and at most that of every one
-  pub work-attained : (C : List ℕ) → (M : List (List ℕ)) × Movement n (length starts) calls M × (cost d starts M C ≡ work d n starts calls C)
+  -- w(C) is the least cost of all movements that end at C
+  pub work-least : (C : List ℕ) → LeastTo d n starts calls C (work d n starts calls C)
   unfolding work
-  work-attained C =
+  work-least C =
       let some = some-movement n (length starts) calls (day .crane) (λ r m. day .called m) in
-      let all = movements n (length starts) calls in
-      let best = minimum-attained (λ M. cost d starts M C) all (movements-in n (length starts) (some .1)) in
-      (best .0, in-movements n (length starts) calls (best .1), best .2)
-
-  pub work-below : (C : List ℕ) {M : List (List ℕ)} → Movement n (length starts) calls M → work d n starts calls C ≤ cost d starts M C
-  unfolding work
-  work-below C m = minimum-below (λ M. cost d starts M C) (movements n (length starts) calls) (movements-in n (length starts) m)
+      let least = minimum-least (λ M. cost d starts M C) (movements n (length starts) calls) (movements-in n (length starts) (some .1)) in
+      let best = least .attained in
+      record {
+        attained = (best .0, in-movements n (length starts) calls (best .1), best .2);
+        below = λ M m. least .below M (movements-in n (length starts) m);
+      }
 
   -- w is the same for every order of C
   order-below : (C X : List ℕ) → List·Permᴰ C X → work d n starts calls X ≤ work d n starts calls C
   order-below C X p =
-      let best = work-attained C in
-      rw (← best .2, cost-order d starts (best .0) C X p) (work-below X (best .1))
+      let best = work-least C .attained in
+      rw (← best .2, cost-order d starts (best .0) C X p) (work-least X .below (best .0) (best .1))
 
   pub work-order : (C X : List ℕ) → List·Permᴰ C X → work d n starts calls C ≡ work d n starts calls X
   work-order C X p = le-antisymm (order-below X C (Permᴰ·symm p)) (order-below C X p)
@@ -109,23 +108,20 @@ module _ (d : ℕ → ℕ → ℕ) {n : ℕ} {starts calls : List ℕ} (day : In
   pub work-on : Metric n d → {C X : List ℕ} → Position n (length starts) C → Position n (length starts) X
       → work d n starts calls X ≤ work d n starts calls C + distance d C X
   work-on laws {C} {X} c x =
-      let best = work-attained C in
-      rw (← best .2) (le-trans (work-below X (best .1)) (cost-on laws (day .started) c x (best .1)))
+      let best = work-least C .attained in
+      rw (← best .2) (le-trans (work-least X .below (best .0) (best .1)) (cost-on laws (day .started) c x (best .1)))
 
-  -- the floor is the cost of some movement with some end, and at most that of every movement, whatever its end
-  pub floor-attained : (C : List ℕ) × (M : List (List ℕ)) × Position n (length starts) C × Movement n (length starts) calls M
-      × (cost d starts M C ≡ floor d n starts calls)
+  -- the floor is the least cost of all movements, whatever their ends
+  pub floor-least : LeastOfAll d n starts calls (floor d n starts calls)
   unfolding floor
-  floor-attained =
-      let end = minimum-attained (work d n starts calls) (positions n (length starts)) (positions-in n (day .started)) in
-      let best = work-attained (end .0) in
-      (end .0, best .0, in-positions n (length starts) (end .1), best .1, best .2 ∙ end .2)
-
-  pub floor-below : {C : List ℕ} {M : List (List ℕ)} → Position n (length starts) C → Movement n (length starts) calls M
-      → floor d n starts calls ≤ cost d starts M C
-  unfolding floor
-  floor-below {C} c m =
-      le-trans (minimum-below (work d n starts calls) (positions n (length starts)) (positions-in n c)) (work-below C m)
+  floor-least =
+      let least = minimum-least (work d n starts calls) (positions n (length starts)) (positions-in n (day .started)) in
+      let end = least .attained in
+      let best = work-least (end .0) .attained in
+      record {
+        attained = ((best .0, end .0), (best .1, in-positions n (length starts) (end .1)), best .2 ∙ end .2);
+        below = λ m h. le-trans (least .below (m .1) (positions-in n (h .1))) (work-least (m .1) .below (m .0) (h .0));
+      }
 
 -- ---- no calls
 
@@ -136,8 +132,8 @@ work-none d n starts C = refl
 
 pub floor-none : {n : ℕ} {d : ℕ → ℕ → ℕ} {starts : List ℕ} → Metric n d → Instance n starts [] → floor d n starts [] ≡ 0
 unfolding cost
-floor-none {d = d} laws day =
-    le-antisymm (rw (← distance-self laws (day .started)) (floor-below d day (day .started) Forall₂·nil)) zero-le
+floor-none {d = d} {starts} laws day =
+    le-antisymm (rw (← distance-self laws (day .started)) (floor-least d day .below ([], starts) (Forall₂·nil, day .started))) zero-le
 
 -- ---- one call more
 
@@ -174,9 +170,9 @@ pub work-last : {n : ℕ} {d : ℕ → ℕ → ℕ} {starts : List ℕ} (calls :
     → (C : List ℕ) → (X : List ℕ) × Serves n (length starts) r X
     × (work d n starts (calls ++ (r ∷ [])) X + distance d X C ≤ work d n starts (calls ++ (r ∷ [])) C)
 work-last {d = d} {starts} calls r laws day C =
-    let best = work-attained d day C in
+    let best = work-least d day C .attained in
     let last = last-serves calls r laws (best .1) in
-    let to = work-below d day (last .0) (best .1) in
+    let to = work-least d day (last .0) .below (best .0) (best .1) in
     let on = last .2 starts C in
     let sum = best .2 in
     (last .0, last .1, omega arith)

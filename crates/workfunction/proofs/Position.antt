@@ -14,7 +14,7 @@ use Rattle.base.specs.Lists.{upTo}
 use Rattle.base.specs.Metric.{Metric}
 use Rattle.workfunction.specs.Lists.{permutations}
 use Rattle.workfunction.specs.Position.{Position, positions, pairing, distance}
-use Rattle.workfunction.proofs.Lists.{minimum-attained, minimum-below, in-permutations, permutations-self, permutations-in}
+use Rattle.workfunction.proofs.Lists.{minimum-least, in-permutations, permutations-self, permutations-in}
 use Rattle.workfunction.proofs.Lists.{sections-in, in-sections, upTo-in, in-upTo}
 use Rattle.workfunction.proofs.Sums.{length-order, in-order, in-set, entry-in}
 
@@ -88,12 +88,12 @@ module _ (d : ℕ → ℕ → ℕ) where
   pub distance-attained : (A B : List ℕ) → (X : List ℕ) × List·Permᴰ B X × (pairing d A X ≡ distance d A B)
   unfolding distance
   distance-attained A B =
-      let best = minimum-attained (pairing d A) (permutations B) (permutations-self B) in
+      let best = minimum-least (pairing d A) (permutations B) (permutations-self B) .attained in
       (best .0, in-permutations B (best .1), best .2)
 
   pub distance-below : (A B : List ℕ) {X : List ℕ} → List·Permᴰ B X → distance d A B ≤ pairing d A X
   unfolding distance
-  distance-below A B p = ∥∥₁-elim (permutations-in B ∣ p ∣₁) le-prop (λ m. minimum-below (pairing d A) (permutations B) m)
+  distance-below A B p = ∥∥₁-elim (permutations-in B ∣ p ∣₁) le-prop (λ m. minimum-least (pairing d A) (permutations B) m .below _ m)
 
   -- and by an order of the first list, the second left as it is
   pub attained-left : (A B : List ℕ) → length A ≡ length B → (X : List ℕ) × List·Permᴰ A X × (pairing d X B ≡ distance d A B)

@@ -13,7 +13,7 @@ use Rattle.workfunction.specs.Position.{Position}
 use Rattle.workfunction.specs.Movement.{Instance, work, floor}
 use Rattle.workfunction.specs.Plan.{planRule, vouchRule, planCost, stops, place, legCost, freeCost}
 use Rattle.workfunction.proofs.Lower.{movement-above}
-use Rattle.workfunction.proofs.Movement.{work-attained, work-below, floor-attained, floor-below}
+use Rattle.workfunction.proofs.Movement.{work-least, floor-least}
 use Rattle.workfunction.proofs.Plan.{Plan, plan-facts, Vouched, vouch-facts, plan-least}
 use Rattle.workfunction.proofs.Stops.{place-call, place-stand}
 use Rattle.workfunction.proofs.Upper.{movement-to, movement-free}
@@ -34,14 +34,15 @@ module _ {n : ℕ} {d : ℕ → ℕ → ℕ} (laws : Metric n d) {starts calls :
     pub plan-work : {y : ℕ → ℕ} → Vouched (length starts) (stops starts calls) f (legCost d starts calls stands) y
         → planCost (stops starts calls) (legCost d starts calls stands) f ≡ work d n starts calls stands
     plan-work vouched =
-        let best = work-attained d day stands in
+        let least = work-least d day stands in
+        let best = least .attained in
         let above = movement-above laws day standing plan vouched (λ p b call low lt. le-of-eq (leg-call p b call))
         (λ p e lt end. le-of-eq (leg-stand p e end)) (best .1)
         in
         let some = movement-to laws day plan (legCost d starts calls stands) (λ p b call low lt. le-of-eq (sym (leg-call p b call))) standing
         (λ p e lt end. le-of-eq (sym (leg-stand p e end)))
         in
-        le-antisymm (rw (← best .2) above) (le-trans (work-below d day stands (some .1)) (some .2))
+        le-antisymm (rw (← best .2) above) (le-trans (least .below (some .0) (some .1)) (some .2))
 
   -- ---- free ends
 
@@ -56,12 +57,13 @@ module _ {n : ℕ} {d : ℕ → ℕ → ℕ} (laws : Metric n d) {starts calls :
   pub plan-floor : {y : ℕ → ℕ} → Vouched (length starts) (stops starts calls) f (freeCost d starts calls) y
       → planCost (stops starts calls) (freeCost d starts calls) f ≡ floor d n starts calls
   plan-floor vouched =
-      let best = floor-attained d day in
-      let above = movement-above laws day (best .2) plan vouched (λ p b call low lt. le-of-eq (free-call p b call))
-      (λ p e lt end. rw (free-end p e end) zero-le) (best .3)
+      let least = floor-least d day in
+      let best = least .attained in
+      let above = movement-above laws day (best .1 .1) plan vouched (λ p b call low lt. le-of-eq (free-call p b call))
+      (λ p e lt end. rw (free-end p e end) zero-le) (best .1 .0)
       in
       let some = movement-free laws day plan (freeCost d starts calls) (λ p b call low lt. le-of-eq (sym (free-call p b call))) in
-      le-antisymm (rw (← best .4) above) (le-trans (floor-below d day (some .2) (some .3)) (some .4))
+      le-antisymm (rw (← best .2) above) (le-trans (least .below (some .1, some .0) (some .3, some .2)) (some .4))
 
 -- ---- by the rules, as they are tested
 

@@ -1,4 +1,5 @@
 pub mod Lists
+pub mod Least
 pub mod Position
 pub mod Movement
 pub mod Choice

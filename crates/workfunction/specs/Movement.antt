@@ -4,6 +4,7 @@ use mathlib.Core.Bool.{Bool, false, _||_}
 use mathlib.Core.List.{List, [], _∷_, map, List·Memᴰ, Forall₂}
 use lib.Dec.{eqb}
 use lib.ListN.{length}
+use Rattle.workfunction.specs.Least.{IsLeast}
 use Rattle.workfunction.specs.Lists.{minimum, filter, sections}
 use Rattle.workfunction.specs.Position.{Position, positions, distance}
 
@@ -38,6 +39,16 @@ module _ (d : ℕ → ℕ → ℕ) where
   cost A (P ∷ M) C = distance d A P + cost P M C
 
   module _ (n : ℕ) (starts calls : List ℕ) where
+    -- m is the least cost of all movements from the starts, with a crane at each call in turn, to the end C
+    abbrev pub LeastTo : List ℕ → ℕ → Type 0
+    LeastTo C = IsLeast (Movement n (length starts) calls) (λ M. cost starts M C)
+
+    -- .. of all of them, each with an end of its own
+    abbrev pub LeastOfAll : ℕ → Type 0
+    LeastOfAll =
+        IsLeast {X = List (List ℕ) × List ℕ} (λ m. Movement n (length starts) calls (m .0) × Position n (length starts) (m .1))
+        (λ m. cost starts (m .0) (m .1))
+
     -- "The work function w(C) of a book is the least cost of all its movements that end at C."
     unfoldable pub work : List ℕ → ℕ
     work C = minimum (map (λ M. cost starts M C) (movements n (length starts) calls))

@@ -11,12 +11,12 @@ use native.Mathlib.Omega.{arith}
 use Rattle.base.proofs.Numbers.{unless-zero, then-zero, first-of}
 use Rattle.road.specs.Table.{metresOf, entry}
 use Rattle.book.specs.declared.Book.{Book}
-use Rattle.book.specs.Book.{startsOf, standsOf, requestsOf, SameBook, bookRefusal}
+use Rattle.book.specs.Book.{startsOf, standsOf, requestsOf, BookArrays, SameBook, bookRefusal}
 use Rattle.book.specs.Insertion.{Kept}
 use Rattle.book.specs.Legs.{LegTable}
 use Rattle.book.specs.Serving.{servingRefusal}
 use Rattle.book.proofs.Carried.{sound-kept, told-after, next}
-use Rattle.book.proofs.Sound.{Arrays, Fits, fit, starts-long, stands-long, requests-long, Sound, book-sound, sound-roads, sound-fits}
+use Rattle.book.proofs.Sound.{Fits, fit, starts-long, stands-long, requests-long, Sound, book-sound, sound-roads, sound-fits}
 use Rattle.book.proofs.Tidy.{tidy-same, tidy-refusal, tidy-plan, tidy-weights}
 use Rattle.book.proofs.served.Statement.{statement}
 use Rattle.book.proofs.served.Tie as tie
@@ -54,7 +54,7 @@ fits s n h =
 abbrev tidy : tie.After-tidy → Book
 tidy t = t .tidy .result
 
-arrays : (t : tie.After-tidy) → Arrays (tidy t)
+arrays : (t : tie.After-tidy) → BookArrays (tidy t)
 arrays t = record { starts = search needs; stands = search needs; requests = search needs }
 
 plan-long : (t : tie.After-tidy) → length (tidy t .plan) ≡ 272

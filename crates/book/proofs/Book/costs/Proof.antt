@@ -8,9 +8,9 @@ use Rattle.road.specs.Table.{metresOf, entry}
 use Rattle.workfunction.specs.Movement.{work, floor}
 use Rattle.workfunction.specs.Plan.{planCost, legCost}
 use Rattle.book.specs.declared.Book.{Book}
-use Rattle.book.specs.Book.{startsOf, standsOf, requestsOf, stopsOf, follower, bookRefusal}
+use Rattle.book.specs.Book.{startsOf, standsOf, requestsOf, stopsOf, follower, BookArrays, bookRefusal}
 use Rattle.book.specs.Serving.{TwoCosts, costsOf}
-use Rattle.book.proofs.Sound.{Arrays, Fits, starts-long, requests-long, Sound, book-sound, sound-book}
+use Rattle.book.proofs.Sound.{Fits, starts-long, requests-long, Sound, book-sound, sound-book}
 use Rattle.book.proofs.Sound.{sound-roads, sound-fits, sound-asked, sound-work}
 use Rattle.book.proofs.legs.Laws.{same-costs}
 use Rattle.book.proofs.weights.Laws.{cost-over-legs}
@@ -22,7 +22,7 @@ refused : (book : Book) (places : ℕ) (d : ℕ → ℕ → ℕ) (n : ℕ) → n
 unfolding costsOf
 refused book places d n e h = rw (← e) (zeros-told n _ (λ m. record { number = m; least = 0; floor = 0 }) h)
 
-module _ {book : Book} {n : ℕ} {d : ℕ → ℕ → ℕ} (arrays : Arrays book) (s : Sound book n d) where
+module _ {book : Book} {n : ℕ} {d : ℕ → ℕ → ℕ} (arrays : BookArrays book) (s : Sound book n d) where
   -- the kept plan, over what is read off the table
   kept-work : planCost (stopsOf book) (legCost (entry d) (startsOf book) (requestsOf book) (standsOf book)) (follower (book .plan))
       ≡ work d n (startsOf book) (requestsOf book) (standsOf book)
@@ -42,7 +42,7 @@ module _ {book : Book} {n : ℕ} {d : ℕ → ℕ → ℕ} (arrays : Arrays book
 tested : (c : tie.After-enum-told) → let a = c .before .before .before .args in Sound (a .self) (a .places) (metresOf (a .t3))
 tested c = book-sound (accepts _ _ (c .enum-told .given .1) (c .before .before .test .ensures))
 
-arrays : (c : tie.After-enum-told) → Arrays (c .before .before .before .args .self)
+arrays : (c : tie.After-enum-told) → BookArrays (c .before .before .before .args .self)
 arrays c = record { starts = search needs; stands = search needs; requests = search needs }
 
 fits : (c : tie.After-enum-told) → Fits (c .before .before .before .args .self)
