@@ -35,13 +35,13 @@ fn test_range(stops: usize, weights: &[i64]) -> Verdict
     requires { ⌜ stops ≤ length (now weights) ⌝ }
     ensures { λ r. ⌜ numberOf r ≡ unless (rangeRule stops (weight (now (weights .entry)))) 10 ⌝ }
 {
-    let mut b = 0;
-    while b < stops {
-        let ranged = test_weight(weights[b]);
+    let mut i = 0;
+    while i < stops {
+        let ranged = test_weight(weights[i]);
         let Verdict::Accepted = ranged else {
             return ranged;
         };
-        b += 1;
+        i += 1;
     }
     Verdict::Accepted
 }

@@ -19,14 +19,14 @@ abbrev rule : List ℤ → ℕ → Bool
 rule weights b = weightRule (weight weights b)
 
 abbrev Inv-loop : tie.InvT-loop
-Inv-loop stops weights b₀ b = Passed stops (rule weights) b
+Inv-loop stops weights i₀ i = Passed stops (rule weights) i
 
 abbrev μ-loop : tie.MeasureT-loop
-μ-loop stops weights b₀ b = stops - b
+μ-loop stops weights i₀ i = stops - i
 
 -- what the test of a weight tells, of the weight itself
 tested : (c : tie.After-test-weight Inv-loop μ-loop)
-    → let l = c .before .before .before in numberOf (c .test-weight .result) ≡ unless (rule (l .before .args .weights .now) (l .loop .b)) 10
+    → let l = c .before .before .before in numberOf (c .test-weight .result) ≡ unless (rule (l .before .args .weights .now) (l .loop .i)) 10
 tested c = rw (read-back _ (c .before .test-weight-arg .given)) at (c .test-weight .ensures)
 
 loop-holds : tie.Need-loop-holds Inv-loop μ-loop
@@ -53,10 +53,10 @@ returns c =
     let a = l .before .args in
     let e = c .enum-told2 .given in
     stops _ (e .0 .0) (e .1) _ _ 10 (tested (c .before .before))
-    (below-fails (rule (a .weights .now)) (a .stops) (l .loop .b) (c .before .before .before .before .loop-test .taken))
+    (below-fails (rule (a .weights .now)) (a .stops) (l .loop .i) (c .before .before .before .before .loop-test .taken))
 
-add-b : tie.Need-add-b Inv-loop μ-loop
-add-b c = search needs
+add-i : tie.Need-add-i Inv-loop μ-loop
+add-i c = search needs
 
 loop-less : tie.Need-loop-less Inv-loop μ-loop
 loop-less c = search needs
@@ -64,11 +64,11 @@ loop-less c = search needs
 loop-again : tie.Need-loop-again Inv-loop μ-loop
 loop-again c =
     let l = c .before .before .before .before .before in
-    turned _ _ (l .loop .b) (l .loop .inv) (c .before .before .before .before .loop-test .taken)
+    turned _ _ (l .loop .i) (l .loop .inv) (c .before .before .before .before .loop-test .taken)
     (holds _ _ 9 (c .enum-told .given .1) (tested (c .before .before)))
 
 returns-2 : tie.Need-returns-2 Inv-loop μ-loop
-returns-2 c = rw (ended _ _ (c .before .loop .b) (c .before .loop .inv) (c .loop-test .left))
+returns-2 c = rw (ended _ _ (c .before .loop .i) (c .before .loop .inv) (c .loop-test .left))
 
 pub test-range-spec : {M : Type 1} → statement M
 test-range-spec =
@@ -83,7 +83,7 @@ test-range-spec =
     enum-told
     enum-told-2
     returns
-    add-b
+    add-i
     loop-less
     loop-again
     returns-2)
