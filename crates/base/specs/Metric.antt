@@ -1,4 +1,5 @@
--- What the theory asks of distances: the laws of a metric on the places below n. A distance of 0 may lie between two places.
+-- What the theory asks of the metres between places: the laws of a metric on the places below n, except that two places may be 0
+-- metres apart.
 use Prim.Native.Nat.{ℕ, _+_, _<_, _≤_}
 use mathlib.Core.Path.{_≡_}
 

@@ -28,7 +28,7 @@ within-bound false h = h
 
 module _ {n : ℕ} {d read : ℕ → ℕ → ℕ} (roads : Roads n d read) {starts calls costs : List ℕ} (asked : Asked n starts calls)
     (table : Rows (stops starts calls) (stops starts calls) (freeCost read starts calls) costs) where
-  -- over what is read off the table of distances as over the distances
+  -- over what is read off the table as over its metres
   free-leg : (p b : ℕ) → p < stops starts calls → b < stops starts calls → legAt costs p b ≡ freeCost d starts calls p b
   unfolding freeCost
   free-leg p b h l =

@@ -1,4 +1,4 @@
--- The distances of a table that keeps its rules are roads: a metric, no leg above the limit, and read as they are.
+-- The metres of a table that keeps its rules are roads: a metric, no leg above the limit, and read as they are.
 -- Assumes nothing.
 use Prim.Native.Nat.{ℕ, _<_, _≤_, zero-le}
 use mathlib.Core.Bool.{true}

@@ -34,7 +34,7 @@ stopsOf book = book .cranes + book .calls
 abbrev pub follower : List ℕ → ℕ → ℕ
 follower plan p = getD plan p 0
 
--- "Each call and each stand b has a weight y(b)."
+-- "Each call and each stand b has a weight y(b)": a dual variable.
 abbrev pub weight : List ℤ → ℕ → ℤ
 weight weights b = getD weights b (pos 0)
 

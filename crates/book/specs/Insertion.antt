@@ -45,7 +45,7 @@ pub record Unmoved (N : ℕ) (plan : List ℕ) (weights : List ℤ) (plan' : Lis
   pub followers : (p : ℕ) → N < p → follower plan' p ≡ follower plan p
   pub weighed : (b : ℕ) → N < b → weight weights' b ≡ weight weights b
 
--- distances d between n places, and what is read off their table
+-- metres d between n places, and what is read off their table
 pub record Roads (n : ℕ) (d read : ℕ → ℕ → ℕ) : Type 0 where
   pub laws : Metric n d
   pub short : (u v : ℕ) → u < n → v < n → d u v ≤ 1000000

@@ -1,4 +1,4 @@
-// The flip of a plan: the follower of one stop is freed and goes to the new call, by swaps along the parents.
+// The flip of a plan along an augmenting path: the follower of one stop is freed and goes to the new call, by swaps along the parents.
 ghost use mathlib.Core.Path.{_≡_};
 ghost use Prim.Native.Nat.{ℕ, _<_, _≤_};
 ghost use lib.ListN.{length};

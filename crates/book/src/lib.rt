@@ -39,9 +39,9 @@ pub struct Book {
     pub stands: [u16; Book::CRANES],
     // The place of each call, in order.
     pub requests: [u16; Book::CALLS],
-    // The follower of each stop.
+    // The follower of each stop: a perfect matching.
     pub plan: [u16; Book::STOPS],
-    // The weight of each follower.
+    // The weight of each follower: its dual variable.
     pub weights: [i64; Book::STOPS],
 }
 

@@ -1,4 +1,4 @@
-// The test of weights, each within its range and together vouching for the plan, and new ones from net costs.
+// The test of weights, the dual variables, each within its range and together vouching for the plan, and new ones from net costs.
 use crate::Book;
 use crate::legs;
 use crate::search;

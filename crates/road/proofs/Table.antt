@@ -91,7 +91,7 @@ module _ (n : ℕ) (d : ℕ → ℕ → ℕ) where
       let rest = then-zero (legsRefusal n d) (triangleRefusal n d) (then-zero (placesRefusal n) (legsRefusal n d then triangleRefusal n d) h .1) in
       tested-metric (unless-zero (legsRule n d) 3 (rest .0)) (unless-zero (triangleRule n d) 7 (rest .1))
 
--- "Entries past the counts, the road table's included, are ignored on the way in": the distances between the places decide
+-- "Entries past the counts, the road table's included, are ignored on the way in": the metres between the places decide
 module _ (n : ℕ) (d e : ℕ → ℕ → ℕ) (same : (u v : ℕ) → u < n → v < n → d u v ≡ e u v) where
   pub same-legs : legsRule n d ≡ legsRule n e
   unfolding legRule

@@ -1,4 +1,4 @@
--- The road table of document 01: its distances, its rules, and the first refusal that applies to it.
+-- The road table of document 01: its metres, its rules, and the first refusal that applies to it.
 use Prim.Native.Nat.{ℕ, _+_}
 use mathlib.Core.Bool.{Bool, _&&_, cond}
 use mathlib.Core.List.{List, []}

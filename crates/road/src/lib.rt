@@ -1,4 +1,4 @@
-// The road table: its limits, its distances, and its tests with the refusals 3, 4 and 8.
+// The road table: its limits, its metres, and its tests with the refusals 3, 4 and 8.
 // Stands on `base`.
 mod legs;
 mod triangles;

@@ -83,7 +83,7 @@ module _ {n : ℕ} {d : ℕ → ℕ → ℕ} (laws : Metric n d) {k N : ℕ} (st
       let far = to .2 in
       omega arith
 
--- No movement costs less than a plan with weights that vouch, where no leg of the plan costs more than the distance to its
+-- No movement costs less than a plan with weights that vouch, where no leg of the plan costs more than the metres to its
 -- call, or to the place that the movement's end has for its stand.
 pub movement-above : {n : ℕ} {d : ℕ → ℕ → ℕ} {starts calls C : List ℕ} {f y : ℕ → ℕ} {c : ℕ → ℕ → ℕ} {M : List (List ℕ)} → Metric n d
     → Instance n starts calls → Position n (length starts) C → Plan (length starts) (stops starts calls) f

@@ -174,7 +174,7 @@ module _ {n : ℕ} {d : ℕ → ℕ → ℕ} (laws : Metric n d) {k N : ℕ} (st
       (upper run after (omega arith) (omega arith)
       (λ b lt m. once-on T rs j i b (found .1) (found .2) (other b m) (once b lt (⊎-elim inl (λ h. inr (omega arith)) m))))
 
--- A plan whose legs cost at least their distances costs at least as much as some movement.
+-- A plan whose legs cost at least their metres costs at least as much as some movement.
 module _ {n : ℕ} {d : ℕ → ℕ → ℕ} (laws : Metric n d) {starts calls : List ℕ} (day : Instance n starts calls) {f : ℕ → ℕ}
     (plan : Plan (length starts) (stops starts calls) f) (c : ℕ → ℕ → ℕ)
     (legs : (p b : ℕ) → length starts ≤ b → p < b → b < stops starts calls → d (place starts calls p) (place starts calls b) ≤ c p b) where
@@ -201,7 +201,7 @@ module _ {n : ℕ} {d : ℕ → ℕ → ℕ} (laws : Metric n d) {starts calls :
   ending : Position n (length starts) ends
   ending = tags-places (place starts calls) (stop-placed day) (found .tags)
 
-  -- with the plan's own ends, where their legs cost at least the distance to C
+  -- with the plan's own ends, where their legs cost at least the metres to C
   pub movement-to : {C : List ℕ} → Position n (length starts) C
       → ((p e : ℕ) → p < stops starts calls → e < length starts → d (place starts calls p) (getD C e 0) ≤ c p e)
       → (M : List (List ℕ)) × Movement n (length starts) calls M × (cost d starts M C ≤ planCost (stops starts calls) c f)

@@ -53,6 +53,6 @@ module _ (d : ℕ → ℕ → ℕ) where
     unfoldable pub work : List ℕ → ℕ
     work C = minimum (map (λ M. cost starts M C) (movements n (length starts) calls))
 
-    -- "'floor' is the smallest w(C) over all C."
+    -- "'floor' is the smallest w(C) over all C": the cost of the offline optimum.
     unfoldable pub floor : ℕ
     floor = minimum (map work (positions n (length starts)))

@@ -28,7 +28,8 @@ pub record NetCosts (k N base : ℕ) (f : ℕ → ℕ) (c : ℕ → ℕ → ℕ)
 abbrev pub SameCounts : ℕ → (ℕ → ℕ) → (ℕ → ℕ) → Type 0
 SameCounts N f g = (b : ℕ) → sumBelow (N + 1) (follows g b) ≡ sumBelow (N + 1) (follows f b)
 
--- g is the plan f with the follower of stop t freed: N takes it, and every other stop keeps its follower or takes its parent's
+-- g is the plan f with the follower of stop t freed, flipped along the augmenting path of parents from t to N: N takes that
+-- follower, and every other stop keeps its own or takes its parent's
 pub record Flipped (N : ℕ) (f parent : ℕ → ℕ) (t : ℕ) (g : ℕ → ℕ) : Type 0 where
   pub freed : g N ≡ f t
   pub taken : (p : ℕ) → p < N → (g p ≡ f p) ⊎ (g p ≡ f (parent p))

@@ -1,5 +1,7 @@
--- Plans and the weights that vouch for them. Stops and followers are numbered alike: the stops are the starts and then the
--- calls, the followers the stands and then the calls. With k cranes and m calls there are N = k + m of each.
+-- Plans and the weights that vouch for them. A plan is a perfect matching of the stops with their followers, and of least cost if
+-- there are dual variables, here the weights, with which it is in complementary slackness: if they vouch for it.
+-- Stops and followers are numbered alike: the stops are the starts and then the calls, the followers the stands and then the
+-- calls. With k cranes and m calls there are N = k + m of each.
 use Prim.Native.Nat.{ℕ, _+_}
 use mathlib.Core.Bool.{Bool, true, cond, _&&_, _||_}
 use mathlib.Core.List.{List, _++_}
@@ -27,12 +29,12 @@ module _ (k N : ℕ) (f : ℕ → ℕ) where
   unfoldable pub followersRule : Bool
   followersRule = allBelow N (λ p. ltb (f p) N && mayFollow k p (f p))
 
-  -- f is a plan: f p is the follower of p
+  -- f is a plan, a perfect matching: f p is the follower of p
   unfoldable pub planRule : Bool
   planRule = followersRule && onceRule N f
 
 module _ (f : ℕ → ℕ) (c : ℕ → ℕ → ℕ) (y : ℕ → ℤ) where
-  -- "y(b) − y(f(p)) ≤ d(p,b) − d(p,f(p))", c p b being d(p,b)
+  -- "y(b) − y(f(p)) ≤ d(p,b) − d(p,f(p))", c p b being d(p,b): the reduced cost of the leg to b is at least that of the plan's own
   unfoldable pub slackRule : ℕ → ℕ → Bool
   slackRule p b = leZ (y b -ℤ y (f p)) (pos (c p b) -ℤ pos (c p (f p)))
 
@@ -41,7 +43,8 @@ module _ (k : ℕ) (f : ℕ → ℕ) (c : ℕ → ℕ → ℕ) (y : ℕ → ℤ)
   unfoldable pub vouchAt : ℕ → ℕ → Bool
   vouchAt p b = cond (mayFollow k p b) (slackRule f c y p b) true
 
--- "The weights vouch for the plan if for every stop p and every b that may follow p": that inequality holds.
+-- "The weights vouch for the plan if for every stop p and every b that may follow p": that inequality holds. In linear
+-- programming: with y as dual variables, plan and weights are in complementary slackness.
 unfoldable pub vouchRule : ℕ → ℕ → (ℕ → ℕ) → (ℕ → ℕ → ℕ) → (ℕ → ℤ) → Bool
 vouchRule k N f c y = allBelow N (λ p. allBelow N (vouchAt k f c y p))
 

@@ -6,7 +6,8 @@ use lib.ListN.{length, replicate}
 use Rattle.base.specs.Lists.{upTo}
 use Rattle.workfunction.specs.Lists.{minimum, permutations, sections}
 
--- "A position is a list of k places, k being the number of cranes": places of a table of n.
+-- "A position is a list of k places, k being the number of cranes": places of a table of n. In the literature on k servers, a
+-- configuration.
 pub record Position (n k : ℕ) (C : List ℕ) : Type 0 where
   pub cranes : length C ≡ k
   pub placed : {p : ℕ} → List·Memᴰ p C → p < n

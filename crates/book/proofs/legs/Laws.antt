@@ -1,5 +1,5 @@
 -- The laws of the places of stops and followers, and of a table of leg costs into which a leg or a row is written; only
--- the distances between the places decide them. Assumes nothing.
+-- the metres between the places decide them. Assumes nothing.
 use Prim.Native.Nat.{ℕ, _+_, _-_, _*_, _<_, _≤_}
 use mathlib.Core.Bool.{true}
 use mathlib.Core.List.{List, _++_}

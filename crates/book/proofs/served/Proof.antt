@@ -37,7 +37,7 @@ called book n d r h =
       space = ltb-true (book .calls) 256 (unless-zero (ltb (book .calls) 256) 6 (asked .1));
     }
 
--- the distances
+-- the metres between the places
 abbrev roads : tie.Start → ℕ → ℕ → ℕ
 roads s = metresOf (s .args .table .now)
 

@@ -36,7 +36,7 @@ one-by-one book m t n = apart (stopsRefusal m (startsOf book)) (stopsRefusal m (
     apart zero (suc s) u h = h
     apart (suc r) s u h = h
 
--- over what is read off the table as over its distances
+-- over what is read off the table as over its metres
 by-reading : (book : Book) (n : ℕ) (d : ℕ → ℕ → ℕ) → CountsTested n (book .cranes) (book .calls) → stopsTest book n ≡ 0
     → planRule (book .cranes) (stopsOf book) (follower (book .plan)) ≡ true
     → weightsRefusal (book .cranes) (stopsOf book) (book .plan) (book .weights) (legCost (entry d) (startsOf book) (requestsOf book) (standsOf book))

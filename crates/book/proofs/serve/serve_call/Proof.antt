@@ -1,4 +1,4 @@
--- `book::serve::serve_call` meets its contract: the day under way gives what each call requires, whatever its distances.
+-- `book::serve::serve_call` meets its contract: the day under way gives what each call requires, whatever its metres.
 -- Assumes nothing.
 use Prim.Native.Nat.{_<_}
 use borrow.Author.Needs.{needs}
