@@ -1,5 +1,5 @@
--- "Entries past the counts, the road table's included, are ignored on the way in": books that are the same, with tables that
--- agree between the places, are tested alike. Assumes nothing.
+-- "Entries past the counts, the road table's included, are ignored on the way in": books that are the same and days that are
+-- the same, with tables that agree between the places, are tested alike and give the same results. Assumes nothing.
 use Prim.Native.Nat.{ℕ, zero, suc, _<_}
 use mathlib.Core.Bool.{true}
 use mathlib.Core.List.{List, []}
@@ -42,8 +42,19 @@ same-plan k n f g same =
     let once : onceRule n f ≡ onceRule n g = below-same _ _ n (λ b l. rw (sum-same n (follows f b) (follows g b) (λ p h. rw (same p h)))) in
     rw (followers, once)
 
+-- places that keep their rule, as many as they are
 position : (n : ℕ) (l : List ℕ) → stopsRule n l ≡ true → Position n (length l) l
 position n l rule = record { cranes = refl; placed = placed n l rule }
+
+-- the starts and the stands of a sound book
+module _ {book : Book} {n : ℕ} {d : ℕ → ℕ → ℕ} (s : Sound book n d) where
+  started : Position n (length (startsOf book)) (startsOf book)
+  started = position n (startsOf book) (s .starts)
+
+  standing : Position n (length (standsOf book)) (standsOf book)
+  standing = position n (standsOf book) (s .stands)
+
+-- ---- a book
 
 module _ (a b : Book) (n : ℕ) (d e : ℕ → ℕ → ℕ) (books : SameBook a b) (tables : (u v : ℕ) → u < n → v < n → d u v ≡ e u v) where
   pub past-counts-ignored : bookRefusal a n d ≡ bookRefusal b n e
@@ -61,13 +72,6 @@ module _ (a b : Book) (n : ℕ) (d e : ℕ → ℕ → ℕ) (books : SameBook a 
       (λ q f h l. same-costs (counts-tested n (b .cranes) (b .calls) c .place) (startsOf b) (requestsOf b) (standsOf b)
       (unless-zero _ 4 s) (unless-zero _ 4 r) (unless-zero _ 4 t) d e tables q f)))))))))
 
-  -- where a book is sound, the places that it reads
-  started : Sound a n d → Position n (length (startsOf a)) (startsOf a)
-  started s = position n (startsOf a) (s .starts)
-
-  standing : Sound a n d → Position n (length (standsOf a)) (standsOf a)
-  standing s = position n (standsOf a) (s .stands)
-
   -- the two costs
   pub same-costs-told : costsOf a n d ≡ costsOf b n e
   unfolding costsOf
@@ -75,7 +79,9 @@ module _ (a b : Book) (n : ℕ) (d e : ℕ → ℕ → ℕ) (books : SameBook a 
       told-alike _≡_ _ _ past-counts-ignored
       (λ h.
       let s : Sound a n d = book-sound h in
-      rw (← books .starts, ← books .requests, ← books .stands, work-same tables (started s) (requestsOf a) (standing s), floor-same tables (started s) (requestsOf a)))
+      let least = work-same tables (started s) (requestsOf a) (standing s) in
+      let floor = floor-same tables (started s) (requestsOf a) in
+      rw (← books .starts, ← books .requests, ← books .stands, least, floor))
       (λ k. refl)
 
   -- the book with 0 past its counts
@@ -94,10 +100,11 @@ module _ (a b : Book) (n : ℕ) (d e : ℕ → ℕ → ℕ) (books : SameBook a 
       }
 
   module _ (r : ℕ) where
+    -- the number of a call
     pub same-serving : servingRefusal a n d r ≡ servingRefusal b n e r
     same-serving = rw (past-counts-ignored, books .calls)
 
-    -- the figures of a call
+    -- its figures
     pub same-figures : servingRefusal a n d r ≡ 0 → figuresOf a n d r ≡ figuresOf b n e r
     same-figures h =
         let tested = then-zero (bookRefusal a n d) _ h in
@@ -105,20 +112,20 @@ module _ (a b : Book) (n : ℕ) (d e : ℕ → ℕ → ℕ) (books : SameBook a 
         let asked = ltb-true r n (first-of (ltb r n) 4 _ (tested .1) .0) in
         rw (← books .starts, ← books .requests, ← books .stands) (served-same tables (started s) (requestsOf a) (standing s) asked)
 
-    -- what is told of a call, served or refused; the book of a refused call is the caller's, as it was given
-    pub same-told : (plan plan' : List ℕ) (weights weights' : List ℤ)
+    -- what is told of it, served or refused
+    pub same-call-told : (plan plan' : List ℕ) (weights weights' : List ℤ)
         → (servedOf a n d r plan weights .number ≡ servedOf b n e r plan' weights' .number)
         × (servedOf a n d r plan weights .figures ≡ servedOf b n e r plan' weights' .figures)
     unfolding servedOf
-    same-told plan plan' weights weights' =
-        told-alike (λ (x y : Outcome). (x .number ≡ y .number) × (x .figures ≡ y .figures)) _ _ same-serving (λ h. (refl, same-figures h)) (λ k. (refl, refl))
+    same-call-told plan plan' weights weights' =
+        told-alike (λ (x y : Outcome). (x .number ≡ y .number) × (x .figures ≡ y .figures)) _ _ same-serving
+        (λ h. (refl, same-figures h)) (λ k. (refl, refl))
 
+    -- all that serving it gives; the book of a refused call is the caller's, as it was given
     pub same-outcome : servingRefusal a n d r ≡ 0 → (plan : List ℕ) (weights : List ℤ)
         → servedOf a n d r plan weights ≡ servedOf b n e r plan weights
     unfolding servedOf
-    same-outcome h plan weights =
-        let other = sym same-serving ∙ h in
-        rw (h, other, same-figures h, same-tidied)
+    same-outcome h plan weights = rw (h, sym same-serving ∙ h, same-figures h, same-tidied)
 
 -- ---- a day
 
@@ -143,14 +150,15 @@ module _ (a b : Day) (d e : ℕ → ℕ → ℕ) (days : SameDay a b) (tables : 
   same-opened = rw (same-refusal a b d e days tables, same-fresh)
 
   -- the served day
-  pub same-served : servedDay a d ≡ servedDay b e
+  pub same-day-served : servedDay a d ≡ servedDay b e
   unfolding servedDay
-  same-served =
+  same-day-served =
       let tests = same-refusal a b d e days tables in
       told-alike _≡_ _ _ tests
       (λ h.
       let t : Tested b e = day-tested b e (sym tests ∙ h) in
       let starts = position (b .places) (dayStarts b) (t .starts) in
-      rw (days .starts, days .requests, days .places, days .calls, floor-same tables starts (dayRequests b),
-      serve-same tables starts [] starts (dayRequests b) (λ r m. placed (b .places) (dayRequests b) (t .requests) m)))
+      let all = serve-same tables starts [] starts (dayRequests b) (λ r. placed (b .places) (dayRequests b) (t .requests)) in
+      let floor = floor-same tables starts (dayRequests b) in
+      rw (days .starts, days .requests, days .places, days .calls, all, floor))
       (λ k. refl)

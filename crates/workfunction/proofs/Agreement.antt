@@ -67,7 +67,8 @@ module _ {n : ℕ} {d e : ℕ → ℕ → ℕ} (same : (u v : ℕ) → u < n →
       drive-same s = same (getD stands s 0) r (stand-below stands standing (omega arith) s) asked
 
       -- w with the call as the last, where crane s is sent to it
-      workThen-same : (s : ℕ) → workThen d n starts calls stands r (moved stands r s) ≡ workThen e n starts calls stands r (moved stands r s)
+      workThen-same : (s : ℕ)
+          → workThen d n starts calls stands r (moved stands r s) ≡ workThen e n starts calls stands r (moved stands r s)
       workThen-same s = work-same (calls ++ (r ∷ [])) (position-set stands s r asked standing)
 
       -- the sum of a single move
@@ -96,4 +97,5 @@ module _ {n : ℕ} {d e : ℕ → ℕ → ℕ} (same : (u v : ℕ) → u < n →
     serve-same calls {stands = stands} standing (r ∷ rs) asked =
         let here : r < n = asked r (List·Memᴰ·head refl) in
         let there = position-set stands (choice e n starts calls stands r) r here standing in
-        rw (served-same calls standing here, choice-same calls standing here, serve-same (calls ++ (r ∷ [])) there rs (λ q m. asked q (List·Memᴰ·tail m)))
+        let rest = serve-same (calls ++ (r ∷ [])) there rs (λ q m. asked q (List·Memᴰ·tail m)) in
+        rw (served-same calls standing here, choice-same calls standing here, rest)
