@@ -57,6 +57,15 @@ module _ {A : Type 0} where
   pub length-padded : (m n : ℕ) (f : ℕ → A) (z : A) → n ≤ m → length (padded m n f z) ≡ m
   length-padded m n f z h = simp (length-append, length-upTo, length-replicate) (omega arith)
 
+  -- arrays of one count whose entries within it agree are the same
+  pub padded-same : (m : ℕ) {k n : ℕ} (f g : ℕ → A) (z : A) → k ≡ n → ((i : ℕ) → i < n → f i ≡ g i) → padded m k f z ≡ padded m n g z
+  padded-same m {n = n} f g z e same = rw (e, upTo-same n f g same)
+
+  pub kept-same : (m : ℕ) {k n : ℕ} (l o : List A) (z : A) → k ≡ n → take k l ≡ take n o
+      → padded m k (λ j. getD l j z) z ≡ padded m n (λ j. getD o j z) z
+  kept-same m {k} {n} l o z e same =
+      padded-same m _ _ z e (λ i h. sym (getD-take k l i z (rw e h)) ∙ ap (λ (t : List A). getD t i z) same ∙ getD-take n o i z h)
+
   pub replicate-at : (n i : ℕ) (z : A) → getD (replicate n z) i z ≡ z
   replicate-at zero i z = refl
   replicate-at (suc n) zero z = refl

@@ -69,6 +69,12 @@ pub accepted-values : {A : Type 0} (n : ℕ) (values : A) (zeros : ℕ → A) (t
 accepted-values zero values zeros told numbered h = refl
 accepted-values (suc n) values zeros told numbered h = sym (numbered (suc n)) ∙ h
 
+-- of two inputs with the same number alike things are told, if they are where it is 0 and where it refuses
+pub told-alike : {A : Type 0} (Alike : A → A → Type 0) (m n : ℕ) {v w : A} {y z : ℕ → A} → m ≡ n → (m ≡ 0 → Alike v w)
+    → ((k : ℕ) → Alike (y k) (z k)) → Alike (unlessRefused m v y) (unlessRefused n w z)
+told-alike Alike zero n e values zeros = rw (← e) (values refl)
+told-alike Alike (suc m) n e values zeros = rw (← e) (zeros (suc m))
+
 -- a test that is known to accept, asked again, leaves the next to decide
 pub asked-again : (s t n : ℕ) → s ≡ 0 → n ≡ (s then t) → n ≡ t
 asked-again s t n e h = h ∙ ap (λ (k : ℕ). k then t) e

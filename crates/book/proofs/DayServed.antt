@@ -12,7 +12,7 @@ use native.Mathlib.Omega.{arith}
 use Rattle.base.proofs.Lists.{take-kept, drop-replicate, Filled, fill-begun, fill-turned, fill-ended}
 use Rattle.road.specs.Table.{entry}
 use Rattle.dayfile.specs.declared.Day.{Day}
-use Rattle.dayfile.specs.Day.{dayStarts, dayRequests, dayRefusal}
+use Rattle.dayfile.specs.Day.{dayStarts, dayRequests, DayArrays, dayRefusal}
 use Rattle.dayfile.proofs.Limits.{Tested, day-tested, stop-below}
 use Rattle.workfunction.specs.Choice.{moved, choice}
 use Rattle.workfunction.specs.Lists.{sumBelow}
@@ -116,8 +116,7 @@ crane-few ways kept asked answer =
 -- no refusal applies to the day, the book is its fresh one, and the arrays have the lengths of their types
 pub record FreshDay (day : Day) (d : ℕ → ℕ → ℕ) (book : Book) : Type 0 where
   pub none : dayRefusal day d ≡ 0
-  pub starts : length (day .starts) ≡ 16
-  pub requests : length (day .requests) ≡ 256
+  pub lengths : DayArrays day
   pub fresh : book ≡ freshBook (day .cranes) (day .starts)
   pub arrays : BookArrays book
   pub plan : length (book .plan) ≡ 272
@@ -128,13 +127,13 @@ module _ {day : Day} {d : ℕ → ℕ → ℕ} {book : Book} (given : FreshDay d
   tests = day-tested day d (given .none)
 
   pub day-sound : Sound book (day .places) d
-  day-sound = book-sound (rw (given .fresh) (fresh-sound day d (given .none) (given .starts)))
+  day-sound = book-sound (rw (given .fresh) (fresh-sound day d (given .lengths) (given .none)))
 
   pub day-fits : Fits book
   day-fits = sound-fits (given .arrays) day-sound
 
   pub calls-fit : day .calls ≤ length (day .requests)
-  calls-fit = rw (given .requests) (tests .counts .calls)
+  calls-fit = rw (given .lengths .requests) (tests .counts .calls)
 
   pub calls-long : length (dayRequests day) ≡ day .calls
   calls-long = length-take-le (day .calls) (day .requests) calls-fit
@@ -164,7 +163,7 @@ module _ {day : Day} {d : ℕ → ℕ → ℕ} {book : Book} (given : FreshDay d
   -- each crane stands at its start
   at-starts : startsOf book ≡ dayStarts day
   unfolding freshBook
-  at-starts = rw (given .fresh) (take-kept 16 (day .cranes) (day .starts) 0 (rw (given .starts) (tests .counts .cranes)))
+  at-starts = rw (given .fresh) (take-kept 16 (day .cranes) (day .starts) 0 (rw (given .lengths .starts) (tests .counts .cranes)))
 
   at-stands : standsOf book ≡ startsOf book
   unfolding freshBook

@@ -1,8 +1,8 @@
--- The fresh book of an accepted day is sound. Assumes nothing.
+-- The fresh book of an accepted day is sound, and both its costs are 0. Assumes nothing.
 use Prim.Native.Nat.{ℕ, _+_, _<_, _≤_, zero-le}
 use mathlib.Core.Bool.{true, cond}
-use mathlib.Core.List.{List, []}
-use mathlib.Core.Path.{_≡_, sym, _∙_}
+use mathlib.Core.List.{List, [], List·Memᴰ·not-nil}
+use mathlib.Core.Path.{_≡_, refl, sym, _∙_}
 use borrow.Author.Tests.{lt-ltb, le-leb, eq-eqb, ne-eqb}
 use lib.Dec.{eqb}
 use lib.IntN.{ℤ, pos}
@@ -11,17 +11,23 @@ use native.Mathlib.Decide.{ℕ-discrete}
 use native.Mathlib.Nat.{add-zero}
 use native.Mathlib.Omega.{arith}
 use Rattle.base.specs.Lists.{upTo, padded}
+use Rattle.base.specs.Metric.{Metric}
 use Rattle.base.specs.Tests.{allBelow}
 use Rattle.base.proofs.Lists.{length-upTo, getD-upTo, getD-padded, take-padded, take-upTo}
 use Rattle.base.proofs.Tests.{below-all}
 use Rattle.road.proofs.Table.{tested-metric}
 use Rattle.dayfile.specs.declared.Day.{Day}
-use Rattle.dayfile.specs.Day.{stopsRule, countsRefusal, dayRefusal}
+use Rattle.dayfile.specs.Day.{stopsRule, countsRefusal, DayArrays, dayRefusal}
 use Rattle.dayfile.proofs.Limits.{Tested, day-tested, counts-accepted, stops-at}
+use Rattle.workfunction.specs.Movement.{Instance}
 use Rattle.workfunction.specs.Plan.{mayFollow, follows, followersRule, onceRule, planRule, slackRule, vouchAt, vouchRule, place, legCost}
+use Rattle.workfunction.proofs.Movement.{work-none, floor-none}
+use Rattle.workfunction.proofs.Position.{distance-self}
 use Rattle.workfunction.proofs.Stops.{place-stand}
 use Rattle.workfunction.proofs.Sums.{sum-same, sum-one}
 use Rattle.book.specs.Book.{follower, weight, weightRule, rangeRule, bookRefusal, freshBook}
+use Rattle.book.specs.Serving.{costsOf}
+use Rattle.book.proofs.Sound.{placed}
 
 eqb-both-ways : (a b : ℕ) → eqb a b ≡ eqb b a
 eqb-both-ways a b = either (ℕ-discrete a b)
@@ -76,7 +82,7 @@ module _ (k : ℕ) where
         → vouchRule k k (follower (padded 272 k (λ j. j) 0)) c (weight (replicate 272 (pos 0))) ≡ true
     fresh-vouch c self = none-vouch k _ none _ c own self
 
-module _ (day : Day) (d : ℕ → ℕ → ℕ) (h : dayRefusal day d ≡ 0) (sixteen : length (day .starts) ≡ 16) where
+module _ (day : Day) (d : ℕ → ℕ → ℕ) (arrays : DayArrays day) (h : dayRefusal day d ≡ 0) where
   abbrev k : ℕ
   k = day .cranes
 
@@ -89,20 +95,23 @@ module _ (day : Day) (d : ℕ → ℕ → ℕ) (h : dayRefusal day d ≡ 0) (six
   tests : Tested day d
   tests = day-tested day d h
 
+  laws : Metric (day .places) d
+  laws = tested-metric (day .places) d (tests .legs) (tests .triangles)
+
   counts : countsRefusal (day .places) k 0 ≡ 0
   counts =
       let t = tests .counts in
       counts-accepted (day .places) k 0 (record { place = t .place; places = t .places; crane = t .crane; cranes = t .cranes; calls = zero-le })
 
   started : stopsRule (day .places) starts ≡ true
-  started = rw (← take-upTo k (day .starts) 0 (omega (arith, tests .counts))) (tests .starts)
+  started = rw (← take-upTo k (day .starts) 0 (rw (arrays .starts) (tests .counts .cranes))) (tests .starts)
 
   -- each crane stands at its start
   no-way : (p : ℕ) → p < k → legCost d starts [] starts p p ≡ 0
   unfolding legCost
   no-way p lt =
       let at : place starts [] p ≡ start p = place-stand starts [] p (rw length-upTo lt) ∙ getD-upTo k start p 0 lt in
-      rw at (tested-metric (day .places) d (tests .legs) (tests .triangles) .self (start p) (stops-at (day .places) k start started p lt))
+      rw at (laws .self (start p) (stops-at (day .places) k start started p lt))
 
   most : k ≤ 272
   most = omega (arith, tests .counts)
@@ -113,3 +122,18 @@ module _ (day : Day) (d : ℕ → ℕ → ℕ) (h : dayRefusal day d ≡ 0) (six
   fresh-sound =
       rw (counts, tests .legs, take-padded 16 k start 0, started, tests .triangles, add-zero k, fresh-plan k, fresh-range k most)
       (rw (fresh-vouch k most _ no-way))
+
+  -- the day before its first call
+  uncalled : Instance (day .places) starts []
+  uncalled = record {
+    crane = rw length-upTo (tests .counts .crane);
+    started = record { cranes = refl; placed = placed (day .places) starts started };
+    called = λ m. absurd (List·Memᴰ·not-nil m);
+  }
+
+  -- every crane is at its start, and no call has been served
+  pub fresh-costs : costsOf (freshBook (day .cranes) (day .starts)) (day .places) d ≡ record { number = 0; least = 0; floor = 0 }
+  unfolding costsOf freshBook
+  fresh-costs =
+      let least = work-none d (day .places) starts starts ∙ distance-self laws (uncalled .started) in
+      rw (fresh-sound, take-padded 16 k start 0, least, floor-none laws uncalled)

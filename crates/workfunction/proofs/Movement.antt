@@ -43,7 +43,7 @@ movements-in n k m = sections-in (rows m)
     rows Forall₂·nil = Forall₂·nil
     rows (Forall₂·cons {a = r} h more) = Forall₂·cons (filter-in (contains r) (contains-yes (h .1)) (positions-in n (h .0))) (rows more)
 
-in-movements : (n k : ℕ) (calls : List ℕ) {M : List (List ℕ)} → List·Memᴰ M (movements n k calls) → Movement n k calls M
+pub in-movements : (n k : ℕ) (calls : List ℕ) {M : List (List ℕ)} → List·Memᴰ M (movements n k calls) → Movement n k calls M
 unfolding movements
 in-movements n k calls m = rows calls (in-sections (map (λ r. filter (contains r) (positions n k)) calls) m)
   where

@@ -12,8 +12,7 @@ use Rattle.book.proofs.day_served.Tie as tie
 given : (c : tie.After-book) → let s = c .before .before in FreshDay (s .args .day) (metresOf (s .args .table .now)) (c .book .result)
 given c = record {
   none = c .before .before .pre;
-  starts = search needs;
-  requests = search needs;
+  lengths = record { starts = search needs; requests = search needs };
   fresh = c .book .ensures;
   arrays = record { starts = search needs; stands = search needs; requests = search needs };
   plan = search needs;
