@@ -178,7 +178,7 @@ fn same_weights(a: Book, b: Book) -> bool {
 }
 
 // Whether two books are the same in every entry, those past their counts too.
-fn same(a: Book, b: Book) -> bool {
+pub(crate) fn same(a: Book, b: Book) -> bool {
     if a.cranes != b.cranes {
         return false;
     }
@@ -325,20 +325,6 @@ fn row_agrees(row: [u32; 12]) -> bool {
     serves(book, places, table, (row[10] % 64) as u16, row[11])
 }
 
-// Whether a call is served alike from a book with entries past its counts and from a fresh book, and the books after it are the same.
-fn ignored() -> bool {
-    let stopped = small::day(2, 1, 0, [0, 0, 0, 0], [0, 0, 0, 0, 0, 0]);
-    let opening = Book::fresh(stopped, table(PAIR));
-    let fresh = opening.book;
-    let one = begun(ONE);
-    let first = fresh.serve(2, table(PAIR), 1);
-    let second = one.serve(2, table(PAIR), 1);
-    if second.metres != 7 {
-        return false;
-    }
-    same(first.book, second.book)
-}
-
 // Whether a book's costs are these.
 fn costs_are(book: Book, places: usize, table: Table, least: u64, floor: u64) -> bool {
     let costs = book.costs(places, table);
@@ -358,7 +344,6 @@ pub(crate) fn all() -> Tally {
     let opening = Book::fresh(refusals::day(), refusals::table());
     let refused = Book::fresh(refusals::day(), small::three(10, 26, 15));
     tally
-        .add(ignored())
         .add(costs_are(away, 2, table(PAIR), 7, 0))
         .add(costs_are(opening.book, 3, refusals::table(), 0, 0))
         .add(tests(refused.book, 3, refusals::table(), 6))

@@ -5,6 +5,7 @@ mod brute;
 mod days;
 mod edges;
 mod files;
+mod past;
 mod prints;
 mod refusals;
 mod restored;
@@ -46,6 +47,8 @@ fn searches() {
     tied.print(b"random days with equal sums");
     let restored = restored::all();
     restored.print(b"restored books");
+    let past = past::all();
+    past.print(b"entries past the counts");
 }
 
 fn main() {

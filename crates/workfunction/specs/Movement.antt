@@ -1,4 +1,5 @@
--- Movements of a book, what they cost, and the least of them.
+-- Movements of a book, what they cost, and the least of them: first what a least of all movements is, then the same as numbers that
+-- compute.
 use Prim.Native.Nat.{ℕ, _+_, _<_}
 use mathlib.Core.Bool.{Bool, false, _||_}
 use mathlib.Core.List.{List, [], _∷_, map, List·Memᴰ, Forall₂}
@@ -19,18 +20,9 @@ abbrev pub Serves : ℕ → ℕ → ℕ → List ℕ → Type 0
 Serves n k r C = Position n k C × List·Memᴰ r C
 
 -- "A movement of a book is a list of positions: first the starts, then one for each call in order, containing that call's
--- place, and last its end": here those between the starts and the end.
+-- place, and last its end": here those between the starts and the end. Each is any position, so several cranes may move at a time.
 abbrev pub Movement : ℕ → ℕ → List ℕ → List (List ℕ) → Type 0
 Movement n k = Forall₂ (Serves n k)
-
--- the same as a test: r is an entry of C
-unfoldable pub contains : ℕ → List ℕ → Bool
-contains r [] = false
-contains r (p ∷ C) = eqb r p || contains r C
-
--- every movement
-unfoldable pub movements : ℕ → ℕ → List ℕ → List (List (List ℕ))
-movements n k calls = sections (map (λ r. filter (contains r) (positions n k)) calls)
 
 module _ (d : ℕ → ℕ → ℕ) where
   -- "A movement costs the sum of the distances from each position to the next": from A through M to C.
@@ -39,7 +31,7 @@ module _ (d : ℕ → ℕ → ℕ) where
   cost A (P ∷ M) C = distance d A P + cost P M C
 
   module _ (n : ℕ) (starts calls : List ℕ) where
-    -- m is the least cost of all movements from the starts, with a crane at each call in turn, to the end C
+    -- a number is the least cost of all movements from the starts, with a crane at each call in turn, to the end C
     abbrev pub LeastTo : List ℕ → ℕ → Type 0
     LeastTo C = IsLeast (Movement n (length starts) calls) (λ M. cost starts M C)
 
@@ -49,10 +41,22 @@ module _ (d : ℕ → ℕ → ℕ) where
         IsLeast {X = List (List ℕ) × List ℕ} (λ m. Movement n (length starts) calls (m .0) × Position n (length starts) (m .1))
         (λ m. cost starts (m .0) (m .1))
 
-    -- "The work function w(C) of a book is the least cost of all its movements that end at C."
-    unfoldable pub work : List ℕ → ℕ
-    work C = minimum (map (λ M. cost starts M C) (movements n (length starts) calls))
+-- ---- as numbers that compute
 
-    -- "'floor' is the smallest w(C) over all C": the cost of the offline optimum.
-    unfoldable pub floor : ℕ
-    floor = minimum (map work (positions n (length starts)))
+-- r is an entry of C
+unfoldable pub contains : ℕ → List ℕ → Bool
+contains r [] = false
+contains r (p ∷ C) = eqb r p || contains r C
+
+-- every movement
+unfoldable pub movements : ℕ → ℕ → List ℕ → List (List (List ℕ))
+movements n k calls = sections (map (λ r. filter (contains r) (positions n k)) calls)
+
+module _ (d : ℕ → ℕ → ℕ) (n : ℕ) (starts calls : List ℕ) where
+  -- "The work function w(C) of a book is the least cost of all its movements that end at C."
+  unfoldable pub work : List ℕ → ℕ
+  work C = minimum (map (λ M. cost d starts M C) (movements n (length starts) calls))
+
+  -- "'floor' is the smallest w(C) over all C": the cost of the offline optimum.
+  unfoldable pub floor : ℕ
+  floor = minimum (map work (positions n (length starts)))

@@ -12,10 +12,6 @@ pub record Position (n k : ℕ) (C : List ℕ) : Type 0 where
   pub cranes : length C ≡ k
   pub placed : {p : ℕ} → List·Memᴰ p C → p < n
 
--- every position
-unfoldable pub positions : ℕ → ℕ → List (List ℕ)
-positions n k = sections (replicate k (upTo n (λ p. p)))
-
 module _ (d : ℕ → ℕ → ℕ) where
   -- the sum of one pairing of two lists of one length: each entry of A with the entry of B in its slot
   unfoldable pub pairing : List ℕ → List ℕ → ℕ
@@ -26,3 +22,7 @@ module _ (d : ℕ → ℕ → ℕ) where
   -- "The distance of two positions is the least sum over all pairings": A beside B in every order.
   unfoldable pub distance : List ℕ → List ℕ → ℕ
   distance A B = minimum (map (pairing A) (permutations B))
+
+-- every position
+unfoldable pub positions : ℕ → ℕ → List (List ℕ)
+positions n k = sections (replicate k (upTo n (λ p. p)))
