@@ -1,7 +1,6 @@
 // Entries past the counts: random days, and the books that grow from them, with numbers there that break every rule, in every array and
 // in the table; beside the brute search, and beside the same day without them.
 use crate::books;
-use crate::refusals;
 use crate::search;
 use crate::small;
 use crate::tally::Tally;
@@ -104,10 +103,13 @@ fn spoiled_book(book: Book) -> Book {
 // The records of ten legs, four cranes and six calls.
 const ROOM: usize = 240;
 
+// What a buffer holds before.
+const BEFORE: u8 = 9;
+
 // Whether two days with their tables are written alike, into buffers with the same before.
 fn written_alike(a: Day, b: Day, first: Table, second: Table) -> bool {
-    let mut one = [refusals::BEFORE; ROOM];
-    let mut other = [refusals::BEFORE; ROOM];
+    let mut one = [BEFORE; ROOM];
+    let mut other = [BEFORE; ROOM];
     let told = a.write(first, &mut one);
     let again = b.write(second, &mut other);
     if told.length != again.length {
