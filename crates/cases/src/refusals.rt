@@ -45,13 +45,13 @@ const DAYS: [[u32; 7]; ROWS] = [
 ];
 
 // What a buffer holds before.
-pub(crate) const BEFORE: u8 = 7;
+const BEFORE: u8 = 7;
 
-// Whether every byte from an index on is as it was before.
-pub(crate) fn kept(bytes: &[u8], from: usize) -> bool {
+// Whether every byte from an index on is this one.
+pub(crate) fn rest_is(byte: u8, bytes: &[u8], from: usize) -> bool {
     let mut i = from;
     while i < bytes.len() {
-        if bytes[i] != BEFORE {
+        if bytes[i] != byte {
             return false;
         }
         i += 1;
@@ -72,7 +72,7 @@ fn writes_into(day: Day, table: Table, buffer: &mut [u8], number: u32, length: u
     if written.length != length {
         return false;
     }
-    kept(buffer, length)
+    rest_is(BEFORE, buffer, length)
 }
 
 // The same of a buffer of so many bytes.

@@ -1,52 +1,52 @@
--- What the print is, from what reading the file and serving its day gave, and what becomes of it in a lent buffer.
+-- What the print is, from what reading the file and serving its day gave, and that it fits its array.
 -- Assumes nothing.
-use Prim.Native.Nat.{ℕ, zero, suc, _<_, _≤_, zero-le}
-use mathlib.Core.List.{List, _++_}
-use mathlib.Core.Path.{_≡_, refl, ap, _∙_}
-use borrow.Author.Tests.{le-leb, lt-leb}
-use lib.Dec.{leb}
-use lib.ListN.{length, getD, take, drop, length-append, length-drop}
-use lib.Seq.{take-at, take-length}
-use native.Mathlib.Decide.{decLe}
+use Prim.Native.Nat.{ℕ, zero, suc, _≤_, zero-le}
+use mathlib.Core.List.{List}
+use mathlib.Core.Path.{_≡_, refl}
+use lib.ListN.{length, getD, replicate}
 use native.Mathlib.Nat.{zero-add}
 use native.Mathlib.Omega.{arith}
 use Rattle.base.specs.Lists.{splice}
-use Rattle.base.specs.Numbers.{unless}
+use Rattle.base.specs.Numbers.{unlessRefused}
+use Rattle.base.proofs.Lists.{drop-replicate}
+use Rattle.base.proofs.Numbers.{zeros-told}
 use Rattle.road.specs.Table.{metresOf}
 use Rattle.dayfile.specs.declared.Day.{Day}
 use Rattle.dayfile.specs.Day.{dayRefusal}
-use Rattle.dayfile.specs.File.{Answer, readFile, readTable, Output, outputOf}
+use Rattle.dayfile.specs.File.{Answer, readFile, readTable}
 use Rattle.dayfile.proofs.Limits.{day-tested}
 use Rattle.dayfile.proofs.RoundTrip.{file-accepted}
-use Rattle.workfunction.specs.Serving.{Served}
-use Rattle.book.specs.Serving.{DayFigures, dayOr, servedDay}
-use Rattle.report.specs.Text.{callLines, lastLine, refusedLine, dayText, Put}
-use Rattle.report.specs.Report.{textOr, figuresText, printOf, reportOf}
-use Rattle.report.proofs.text.Laws.{length-decimal, put-on, calls-most}
+use Rattle.book.specs.Serving.{DayFigures, servedDay}
+use Rattle.report.specs.declared.Printed.{Printed}
+use Rattle.report.specs.Text.{callLines, lastLine, refusedLine, dayText}
+use Rattle.report.specs.Put.{Put}
+use Rattle.report.specs.Report.{figuresText, printOf, printed}
+use Rattle.report.proofs.text.Laws.{put-on, calls-most, day-fits, length-lastLine, length-refusedLine}
 
--- a number other than 0 is that of a refusal
-refused-text : (n index : ℕ) (text : List ℕ) → (n ≡ 0 → ⊥) → refusedLine n index ≡ textOr n index text
-refused-text zero index text h = absurd (h refl)
-refused-text (suc n) index text h = refl
+-- what holds of the values and of what goes with each number, holds of what is told
+either-told : {A : Type 0} (P : A → Type 0) (n : ℕ) (values : A) (zeros : ℕ → A) → (n ≡ 0 → P values) → ((k : ℕ) → P (zeros k))
+    → P (unlessRefused n values zeros)
+either-told P zero values zeros p q = p refl
+either-told P (suc n) values zeros p q = q (suc n)
 
 -- ---- a served day
 
-day-calls : (n m : ℕ) (all : List Served) (floor : ℕ) → (n ≡ 0 → m ≤ 256) → dayOr n m all floor .calls ≤ 256
-day-calls zero m all floor h = h refl
-day-calls (suc n) m all floor h = zero-le
-
 pub served-calls : (day : Day) (d : ℕ → ℕ → ℕ) → servedDay day d .calls ≤ 256
 unfolding servedDay
-served-calls day d = day-calls (dayRefusal day d) (day .calls) _ _ (λ e. day-tested day d e .counts .calls)
-
-length-lastLine : (driven floor : ℕ) → length (lastLine driven floor) ≤ 55
-unfolding lastLine
-length-lastLine driven floor = simp length-append (omega (arith, length-decimal driven, length-decimal floor))
+served-calls day d =
+    either-told (λ (s : DayFigures). s .calls ≤ 256) (dayRefusal day d) _ _ (λ e. day-tested day d e .counts .calls) (λ n. zero-le)
 
 module _ (s : DayFigures) where
-  pub day-refused : (n : ℕ) → n ≡ s .number → (s .number ≡ 0 → ⊥) → refusedLine n 0 ≡ figuresText s
+  figures-fit : s .calls ≤ 256 → length (figuresText s) ≤ 32768
   unfolding figuresText
-  day-refused n e h = rw e (refused-text (s .number) 0 _ h)
+  figures-fit calls =
+      either-told (λ (text : List ℕ). length text ≤ 32768) (s .number) _ _ (λ e. day-fits _ _ _ (s .calls) (s .driven) (s .floor) calls)
+      (λ n. omega (arith, length-refusedLine n 0))
+
+  pub day-refused : (n : ℕ) {old now : List ℕ} {r : ℕ} → n ≡ s .number → (s .number ≡ 0 → ⊥) → Put (refusedLine n 0) old 0 now r
+      → Put (figuresText s) old 0 now r
+  unfolding figuresText
+  day-refused n e h p = rw (← zeros-told (s .number) _ (λ (k : ℕ). refusedLine k 0) h, ← e) p
 
   -- the last line behind those of the calls
   pub day-put : {old mid now : List ℕ} {x y : ℕ} → s .number ≡ 0 → s .calls ≤ 256 → 32768 ≤ length old
@@ -59,55 +59,33 @@ module _ (s : DayFigures) where
 -- ---- a file that was read
 
 module _ (file : List ℕ) (a : Answer) (e : a ≡ readFile file) where
-  pub file-refused : (n : ℕ) → n ≡ a .number → (a .number ≡ 0 → ⊥) → refusedLine n (a .index) ≡ printOf file
+  pub file-refused : (n : ℕ) {old now : List ℕ} {r : ℕ} → n ≡ a .number → (a .number ≡ 0 → ⊥) → Put (refusedLine n (a .index)) old 0 now r
+      → Put (printOf file) old 0 now r
   unfolding printOf
-  file-refused n q h = rw (q, ← e) (refused-text (a .number) (a .index) _ h)
+  file-refused n q h p = rw (← e, ← zeros-told (a .number) _ (λ (k : ℕ). refusedLine k (a .index)) h, ← q) p
 
-  pub file-served : (table : List (List ℕ)) → table ≡ readTable file → a .number ≡ 0
-      → figuresText (servedDay (a .day) (metresOf table)) ≡ printOf file
+  pub file-served : (table : List (List ℕ)) {old now : List ℕ} {r : ℕ} → table ≡ readTable file → a .number ≡ 0
+      → Put (figuresText (servedDay (a .day) (metresOf table))) old 0 now r → Put (printOf file) old 0 now r
   unfolding printOf
-  file-served table q z = rw (q, ← e, z)
+  file-served table q z p = rw (← e, z) (rw (q, ← e) at p)
 
 -- the day of an accepted file is served: a file's own test leaves nothing for the day's to refuse
 pub accepted-served : (file : List ℕ) → readFile file .number ≡ 0 → servedDay (readFile file .day) (metresOf (readTable file)) .number ≡ 0
 unfolding servedDay
 accepted-served file h = rw (file-accepted file h)
 
--- ---- the buffer
+-- ---- the array of a print
 
--- what is written into a buffer that stays as long is no longer than it
-pub put-within : {new old now : List ℕ} {r : ℕ} → Put new old 0 now r → length now ≡ length old → r ≤ length now
-unfolding splice
-put-within p long = omega (arith, p .behind, simp (length-append, length-drop) at (ap length (p .buffer)))
+-- the longest print fits in `TEXT`
+pub print-fits : (file : List ℕ) → length (printOf file) ≤ 32768
+unfolding printOf
+print-fits file =
+    either-told (λ (text : List ℕ). length text ≤ 32768) (readFile file .number) _ _
+    (λ e. figures-fit _ (served-calls (readFile file .day) (metresOf (readTable file))))
+    (λ n. omega (arith, length-refusedLine n (readFile file .index)))
 
--- the front of one buffer, copied into the front of another
-pub front-copied : {new old now : List ℕ} {r : ℕ} (out after : List ℕ) → Put new old 0 now r
-    → after ≡ take (length (take r now)) (take r now) ++ drop (length (take r now)) out → after ≡ splice 0 new out
-unfolding splice
-front-copied {new} {now = now} {r = r} out after p e =
-    let n : length new ≡ r = omega (arith, p .behind) in
-    let front : take r now ≡ new = rw (p .buffer) (take-at new _ r n) in
-    e ∙ rw (front, take-length new, zero-add)
-
-module _ (file out : List ℕ) {old text : List ℕ} {r : ℕ} (p : Put (printOf file) old 0 text r) where
-  -- 11
-  pub too-short : length out < r → _≡_ {A = Output} (record { number = 11; length = 0; buffer = out }) (reportOf file out)
-  unfolding reportOf
-  too-short h = rw (lt-leb (length (printOf file)) (length out) (omega (arith, p .behind)))
-
-  pub reported : (after : List ℕ) → r ≤ length out → after ≡ splice 0 (printOf file) out
-      → _≡_ {A = Output} (record { number = 0; length = r; buffer = after }) (reportOf file out)
-  unfolding reportOf
-  reported after h w =
-      let n : r ≡ length (printOf file) = omega (arith, p .behind) in
-      rw (le-leb (length (printOf file)) (length out) (omega arith), n, w)
-
--- whatever the buffer, no more is written than it holds
-pub report-within : (file out : List ℕ) → reportOf file out .length ≤ length out
-unfolding reportOf
-report-within file out = either (decLe (length (printOf file)) (length out))
-  where
-    either : Dec (length (printOf file) ≤ length out)
-        → outputOf (unless (leb (length (printOf file)) (length out)) 11) (printOf file) out .length ≤ length out
-    either (yes h) = rw (le-leb (length (printOf file)) (length out) h) h
-    either (no h) = rw (lt-leb (length (printOf file)) (length out) (omega arith)) zero-le
+-- a text written into the front of zeros
+pub put-printed : {text now : List ℕ} {r : ℕ} → Put text (replicate 32768 0) 0 now r
+    → _≡_ {A = Printed} (record { length = r; text = now }) (printed text)
+unfolding splice printed
+put-printed p = rw (p .buffer, p .behind, zero-add, drop-replicate)

@@ -1,2 +1,3 @@
 pub mod Text
+pub mod Put
 pub mod Report

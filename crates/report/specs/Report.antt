@@ -1,30 +1,28 @@
--- The print of the program, for the bytes of any file and any buffer.
-use Prim.Native.Nat.{ℕ, zero, suc}
-use mathlib.Core.List.{List}
-use lib.Dec.{leb}
-use lib.ListN.{length, getD}
-use Rattle.base.specs.Numbers.{unless}
+-- The print of the program, for the bytes of any file.
+use Prim.Native.Nat.{ℕ, _-_}
+use mathlib.Core.List.{List, _++_}
+use lib.ListN.{length, getD, replicate}
+use Rattle.base.specs.Numbers.{unlessRefused}
 use Rattle.road.specs.Table.{metresOf}
-use Rattle.dayfile.specs.File.{readFile, readTable, Output, outputOf}
+use Rattle.dayfile.specs.File.{readFile, readTable}
 use Rattle.book.specs.Serving.{DayFigures, servedDay}
+use Rattle.report.specs.declared.Printed.{Printed}
 use Rattle.report.specs.Text.{refusedLine, dayText}
 
--- "A refusal writes one line": the number and the index that goes with it, or the text where there is no refusal
-abbrev pub textOr : ℕ → ℕ → List ℕ → List ℕ
-textOr zero index text = text
-textOr (suc number) index text = refusedLine (suc number) index
-
--- the text of a served day
+-- the text of a served day. Of a refused day the line has record 0; the day of an accepted file is never refused (`accepted-served`)
 unfoldable pub figuresText : DayFigures → List ℕ
 figuresText s =
-    textOr (s .number) 0
+    unlessRefused (s .number)
     (dayText (s .calls) (λ i. getD (s .cranes) i 0) (λ i. getD (s .metres) i 0) (λ i. getD (s .leasts) i 0) (s .driven) (s .floor))
+    (λ n. refusedLine n 0)
 
--- the file is read, then the day that it holds is served
+-- "It reads a day file .., serves the calls from a fresh book, and writes lines .. A refusal writes one line, `refused N record I`."
 unfoldable pub printOf : List ℕ → List ℕ
 printOf file =
-    textOr (readFile file .number) (readFile file .index) (figuresText (servedDay (readFile file .day) (metresOf (readTable file))))
+    unlessRefused (readFile file .number)
+    (figuresText (servedDay (readFile file .day) (metresOf (readTable file))))
+    (λ n. refusedLine n (readFile file .index))
 
--- 11: "output buffer shorter than the result"
-unfoldable pub reportOf : List ℕ → List ℕ → Output
-reportOf file out = outputOf (unless (leb (length (printOf file)) (length out)) 11) (printOf file) out
+-- a text in an array of 32,768 bytes, with 0 behind it
+unfoldable pub printed : List ℕ → Printed
+printed text = record { length = length text; text = text ++ replicate (32768 - length text) 0 }

@@ -2,12 +2,9 @@
 use Prim.Native.Nat.{ℕ, zero, suc, _+_, _/_, _%_}
 use mathlib.Core.Bool.{cond}
 use mathlib.Core.List.{List, [], _∷_, _++_}
-use mathlib.Core.Path.{_≡_}
 use lib.Dec.{ltb}
-use lib.ListN.{length}
-use Rattle.base.specs.Lists.{splice}
 
--- a number in base ten, of at most k digits, the most significant first; no zeros in front, and 0 is one digit
+-- "Figures .. are base ten": a number of at most k digits, the most significant first; no zeros in front, and 0 is one digit
 unfoldable pub upToDigits : ℕ → ℕ → List ℕ
 upToDigits zero n = []
 upToDigits (suc k) n = cond (ltb n 10) ((48 + n) ∷ []) (upToDigits k (n / 10) ++ ((48 + n % 10) ∷ []))
@@ -44,11 +41,6 @@ unfoldable pub callLines : ℕ → (ℕ → ℕ) → (ℕ → ℕ) → (ℕ → 
 callLines zero f g h = []
 callLines (suc m) f g h = callLines m f g h ++ callLine m (f m) (g m) (h m)
 
--- a line for each call, then the last line
+-- the print of a served day: "each call line", then "the last line"
 unfoldable pub dayText : ℕ → (ℕ → ℕ) → (ℕ → ℕ) → (ℕ → ℕ) → ℕ → ℕ → List ℕ
 dayText m f g h driven floor = callLines m f g h ++ lastLine driven floor
-
--- new is written into old from index at: the buffer then, and the index behind what was written
-pub record Put (new old : List ℕ) (at : ℕ) (now : List ℕ) (next : ℕ) : Type 0 where
-  pub buffer : now ≡ splice at new old
-  pub behind : next ≡ at + length new

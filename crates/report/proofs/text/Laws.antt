@@ -15,7 +15,8 @@ use native.Mathlib.Omega.{arith}
 use Rattle.base.specs.Lists.{splice}
 use Rattle.base.proofs.Lists.{splice-none, splice-on}
 use Rattle.io.specs.Digits.{digits, Fewest}
-use Rattle.report.specs.Text.{upToDigits, decimal, callLine, callLines, Put}
+use Rattle.report.specs.Text.{upToDigits, decimal, callLine, lastLine, refusedLine, callLines, dayText}
+use Rattle.report.specs.Put.{Put}
 
 -- ---- digits
 
@@ -92,18 +93,33 @@ put-on {a} {b} {old} {at = at} p q h =
       behind = omega (arith, p .behind, q .behind, length-append a b);
     }
 
--- ---- the lines of the calls
+-- ---- how long the lines are at most
+
+pub length-lastLine : (driven floor : ℕ) → length (lastLine driven floor) ≤ 55
+unfolding lastLine
+length-lastLine driven floor = simp length-append (omega (arith, length-decimal driven, length-decimal floor))
+
+pub length-refusedLine : (number index : ℕ) → length (refusedLine number index) ≤ 57
+unfolding refusedLine
+length-refusedLine number index = simp length-append (omega (arith, length-decimal number, length-decimal index))
 
 length-callLine : (i crane metres least : ℕ) → length (callLine i crane metres least) ≤ 108
 unfolding callLine
 length-callLine i crane metres least =
     simp length-append (omega (arith, length-decimal i, length-decimal crane, length-decimal metres, length-decimal least))
 
+-- ---- the lines of the calls
+
 module _ (f g h : ℕ → ℕ) where
   length-callLines : (m : ℕ) → length (callLines m f g h) ≤ 108 * m
   unfolding callLines
   length-callLines zero = zero-le
   length-callLines (suc m) = rw length-append (omega (arith, length-callLines m, length-callLine m (f m) (g m) (h m)))
+
+  -- the text of a day of 256 calls fits
+  pub day-fits : (m driven floor : ℕ) → m ≤ 256 → length (dayText m f g h driven floor) ≤ 32768
+  unfolding dayText
+  day-fits m driven floor few = rw length-append (omega (arith, length-callLines m, length-lastLine driven floor))
 
   pub calls-most : (m : ℕ) {old now : List ℕ} {x : ℕ} → Put (callLines m f g h) old 0 now x → x ≤ 108 * m
   calls-most m p = omega (arith, p .behind, length-callLines m)

@@ -3,7 +3,6 @@
 use mathlib.Core.Path.{sym}
 use lib.Seq.{length-take-le}
 use borrow.Author.Needs.{needs}
-use borrow.Author.Needs.{needs}
 use Rattle.cases.proofs.files.comes_back.Statement.{statement}
 use Rattle.cases.proofs.files.comes_back.Tie as tie
 

@@ -3,7 +3,6 @@
 use mathlib.Core.Path.{sym}
 use lib.Seq.{length-take-le}
 use borrow.Author.Needs.{needs}
-use borrow.Author.Needs.{needs}
 use Rattle.cases.proofs.files.long_agrees.Statement.{statement}
 use Rattle.cases.proofs.files.long_agrees.Tie as tie
 

@@ -6,7 +6,8 @@ use borrow.Author.Needs.{needs}
 use lib.ListN.{length, getD}
 use native.Mathlib.Nat.{le-antisymm}
 use native.Mathlib.Omega.{arith}
-use Rattle.report.specs.Text.{callLines, Put}
+use Rattle.report.specs.Text.{callLines}
+use Rattle.report.specs.Put.{Put}
 use Rattle.report.proofs.text.Laws.{calls-most, no-calls-put, call-put}
 use Rattle.report.proofs.text.put_calls.Statement.{statement}
 use Rattle.report.proofs.text.put_calls.Tie as tie

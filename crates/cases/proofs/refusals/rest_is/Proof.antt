@@ -1,16 +1,16 @@
--- `cases::refusals::kept` is safe: the loop stays below the length.
+-- `cases::refusals::rest_is` is safe: the loop stays below the length.
 -- Assumes nothing.
 use Prim.Native.Nat.{_≤_, _-_}
 use lib.ListN.{length}
 use borrow.Author.Needs.{needs}
-use Rattle.cases.proofs.refusals.kept.Statement.{statement}
-use Rattle.cases.proofs.refusals.kept.Tie as tie
+use Rattle.cases.proofs.refusals.rest_is.Statement.{statement}
+use Rattle.cases.proofs.refusals.rest_is.Tie as tie
 
 abbrev Inv-loop : tie.InvT-loop
-Inv-loop bytes from i₀ i = from ≤ i
+Inv-loop byte bytes from i₀ i = from ≤ i
 
 abbrev μ-loop : tie.MeasureT-loop
-μ-loop bytes from i₀ i = length bytes - i
+μ-loop byte bytes from i₀ i = length bytes - i
 
 loop-holds : tie.Need-loop-holds Inv-loop μ-loop
 loop-holds c = search needs
@@ -33,8 +33,8 @@ loop-again c = search needs
 returns-2 : tie.Need-returns-2 Inv-loop μ-loop
 returns-2 c = search needs
 
-pub kept-spec : {M : Type 1} → statement M
-kept-spec =
+pub rest-is-spec : {M : Type 1} → statement M
+rest-is-spec =
     tie.close
     (tie.spec
     Inv-loop

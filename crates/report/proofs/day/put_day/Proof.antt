@@ -1,4 +1,4 @@
--- `report::print_day` meets its contract: the line of the refusal, or the lines of the calls and the last line behind them.
+-- `report::day::put_day` meets its contract: the line of the refusal, or the lines of the calls and the last line behind them.
 -- Assumes nothing.
 use Prim.Native.Nat.{_≤_}
 use mathlib.Core.Path.{_≡_, ap}
@@ -10,8 +10,8 @@ use Rattle.base.proofs.Numbers.{refused-number}
 use Rattle.book.specs.Serving.{DayFigures, dayFigures}
 use Rattle.report.proofs.Outputs.{served-calls, day-refused, day-put}
 use Rattle.report.proofs.text.Laws.{calls-most}
-use Rattle.report.proofs.print_day.Statement.{statement}
-use Rattle.report.proofs.print_day.Tie as tie
+use Rattle.report.proofs.day.put_day.Statement.{statement}
+use Rattle.report.proofs.day.put_day.Tie as tie
 
 few : (c : tie.After-serve-day) → c .serve-day .result .calls ≤ 256
 few c = rw (ap (λ (s : DayFigures). s .calls) (c .serve-day .ensures)) (served-calls _ _)
@@ -42,7 +42,8 @@ returns c =
     let e = c .before .before .before .before .before .enum-told2 .given in
     let s = c .before .before .before .before .before .before .before .serve-day in
     rw (← s .ensures)
-    (rw (day-refused (dayFigures (s .result)) _ (c .before .before .before .before .number .ensures) (refused-number _ (e .0 .0) (e .1))) at (c .before .before .put-refused .ensures))
+    (day-refused (dayFigures (s .result)) _ (c .before .before .before .before .number .ensures) (refused-number _ (e .0 .0) (e .1))
+    (c .before .before .put-refused .ensures))
 
 slice-aggregate-put-calls : tie.Need-slice-aggregate-put-calls
 slice-aggregate-put-calls c = search needs
@@ -76,8 +77,8 @@ returns-2 c =
     (day-put (dayFigures (s .serve-day .result)) (ap numberOf (t .enum-told .given .1)) (few s) (s .before .before .pre)
     (c .before .before .before .before .before .before .put-calls .ensures) (c .before .before .put-last .ensures))
 
-pub print-day-spec : {M : Type 1} → statement M
-print-day-spec =
+pub put-day-spec : {M : Type 1} → statement M
+put-day-spec =
     tie.close
     (tie.spec
     serve-day-requires
