@@ -39,10 +39,10 @@ fn spoil_weights(weights: &mut [i64], from: usize) {
 // Such metres from an index on.
 fn spoil_row(row: [u32; Road::PLACES], from: usize) -> [u32; Road::PLACES] {
     let mut other = row;
-    for v in 0..Road::PLACES {
-        if from <= v {
-            other[v] = METRES;
-        }
+    let mut v = from;
+    while v < Road::PLACES {
+        other[v] = METRES;
+        v += 1;
     }
     other
 }

@@ -1,3 +1,4 @@
 pub mod Text
 pub mod Put
 pub mod Report
+pub mod Promise

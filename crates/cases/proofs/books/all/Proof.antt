@@ -65,20 +65,14 @@ three-requires c κs = search needs
 fresh-requires-2 : tie.Need-fresh-requires-2 Inv-loop μ-loop
 fresh-requires-2 c κs = search needs
 
-ignored-requires : tie.Need-ignored-requires Inv-loop μ-loop
-ignored-requires c κs = search needs
-
-add-requires-2 : tie.Need-add-requires-2 Inv-loop μ-loop
-add-requires-2 c κs = search needs
-
 table-requires-2 : tie.Need-table-requires-2 Inv-loop μ-loop
 table-requires-2 c κs = search needs
 
 costs-are-requires : tie.Need-costs-are-requires Inv-loop μ-loop
 costs-are-requires c κs = search needs
 
-add-requires-3 : tie.Need-add-requires-3 Inv-loop μ-loop
-add-requires-3 c κs = search needs
+add-requires-2 : tie.Need-add-requires-2 Inv-loop μ-loop
+add-requires-2 c κs = search needs
 
 table-requires-3 : tie.Need-table-requires-3 Inv-loop μ-loop
 table-requires-3 c κs = search needs
@@ -86,8 +80,8 @@ table-requires-3 c κs = search needs
 costs-are-requires-2 : tie.Need-costs-are-requires-2 Inv-loop μ-loop
 costs-are-requires-2 c κs = search needs
 
-add-requires-4 : tie.Need-add-requires-4 Inv-loop μ-loop
-add-requires-4 c κs = search needs
+add-requires-3 : tie.Need-add-requires-3 Inv-loop μ-loop
+add-requires-3 c κs = search needs
 
 table-requires-4 : tie.Need-table-requires-4 Inv-loop μ-loop
 table-requires-4 c κs = search needs
@@ -95,8 +89,8 @@ table-requires-4 c κs = search needs
 tests-requires : tie.Need-tests-requires Inv-loop μ-loop
 tests-requires c κs = search needs
 
-add-requires-5 : tie.Need-add-requires-5 Inv-loop μ-loop
-add-requires-5 c κs = search needs
+add-requires-4 : tie.Need-add-requires-4 Inv-loop μ-loop
+add-requires-4 c κs = search needs
 
 returns : tie.Need-returns Inv-loop μ-loop
 returns c = search needs
@@ -125,15 +119,13 @@ all-spec =
     day-requires-2
     three-requires
     fresh-requires-2
-    ignored-requires
-    add-requires-2
     table-requires-2
     costs-are-requires
-    add-requires-3
+    add-requires-2
     table-requires-3
     costs-are-requires-2
-    add-requires-4
+    add-requires-3
     table-requires-4
     tests-requires
-    add-requires-5
+    add-requires-4
     returns)

@@ -1,0 +1,81 @@
+-- What the print of an accepted file promises holds, for every file. Assumes nothing.
+use Prim.Native.Nat.{ℕ, zero, suc, _<_, suc-le-suc}
+use mathlib.Core.List.{List, [], _++_}
+use mathlib.Core.Path.{_≡_, refl, ap, ap₂, _∙_}
+use lib.ListN.{length, getD}
+use lib.Seq.{length-take-le}
+use native.Mathlib.Nat.{le-of-lt, le-refl}
+use Rattle.base.specs.Lists.{padded}
+use Rattle.base.proofs.Lists.{getD-padded}
+use Rattle.dayfile.specs.Day.{DayArrays, dayRefusal}
+use Rattle.dayfile.specs.File.{readFile}
+use Rattle.dayfile.proofs.Limits.{day-tested}
+use Rattle.dayfile.proofs.RoundTrip.{file-accepted, read-arrays}
+use Rattle.workfunction.specs.Serving.{Served, serve}
+use Rattle.workfunction.proofs.Serving.{serve-at}
+use Rattle.workfunction.proofs.Sums.{sum-same}
+use Rattle.book.specs.Serving.{nth, unserved, servedDay}
+use Rattle.book.proofs.Promise.{day-least, day-floor}
+use Rattle.report.specs.Promise.{day, metres, starts, calls, told, driven, lowest, PrintProved}
+use Rattle.report.specs.Report.{figuresText, printOf}
+use Rattle.report.specs.Text.{callLines, lastLine, dayText}
+
+-- lines of figures that agree for each call
+callLines-same : (m : ℕ) {f f' g g' h h' : ℕ → ℕ} → ((i : ℕ) → i < m → f i ≡ f' i) → ((i : ℕ) → i < m → g i ≡ g' i)
+    → ((i : ℕ) → i < m → h i ≡ h' i) → callLines m f g h ≡ callLines m f' g' h'
+unfolding callLines
+callLines-same zero a b c = refl
+callLines-same (suc m) a b c =
+    rw (
+      callLines-same m (λ i l. a i (le-of-lt (suc-le-suc l))) (λ i l. b i (le-of-lt (suc-le-suc l))) (λ i l. c i (le-of-lt (suc-le-suc l))),
+      a m (le-refl (suc m)),
+      b m (le-refl (suc m)),
+      c m (le-refl (suc m)),
+    )
+
+module _ (file : List ℕ) (accepted : readFile file .number ≡ 0) where
+  none : dayRefusal (day file) (metres file) ≡ 0
+  none = file-accepted file accepted
+
+  arrays : DayArrays (day file)
+  arrays = read-arrays file accepted
+
+  -- the calls served in turn
+  all : List Served
+  all = serve (metres file) (day file .places) (starts file) [] (starts file) (calls file)
+
+  module _ (i : ℕ) (called : i < day file .calls) where
+    told-is : nth all i ≡ told file i
+    unfolding all
+    told-is =
+        let long = length-take-le (day file .calls) (day file .requests) (rw (arrays .requests) (day-tested (day file) (metres file) none .counts .calls)) in
+        serve-at (metres file) (day file .places) (starts file) unserved [] (starts file) (calls file) i (rw long called)
+
+    -- a figure of call i, in its array
+    figure-is : (figure : Served → ℕ) → getD (padded 256 (day file .calls) (λ j. figure (nth all j)) 0) i 0 ≡ figure (told file i)
+    figure-is figure = getD-padded 256 (day file .calls) _ 0 0 i called ∙ ap figure told-is
+
+  lines-are : printOf file
+      ≡ dayText (day file .calls) (λ i. told file i .crane) (λ i. told file i .metres) (λ i. told file i .least) (driven file) (lowest file)
+  unfolding printOf figuresText servedDay dayText all
+  lines-are =
+      rw (accepted, none)
+      (ap₂ (λ lines sum. lines ++ lastLine sum (lowest file))
+      (callLines-same (day file .calls) (λ i l. figure-is i l (λ s. s .crane)) (λ i l. figure-is i l (λ s. s .metres)) (λ i l. figure-is i l (λ s. s .least)))
+      (sum-same (day file .calls) _ _ (λ i l. ap (λ (s : Served). s .metres) (told-is i l))))
+
+  least-told : (i : ℕ) → i < day file .calls → getD (servedDay (day file) (metres file) .leasts) i 0 ≡ told file i .least
+  unfolding servedDay all
+  least-told i called = rw none (figure-is i called (λ s. s .least))
+
+  floor-told : servedDay (day file) (metres file) .floor ≡ lowest file
+  unfolding servedDay
+  floor-told = rw none
+
+  -- for every accepted file
+  pub print-proved : PrintProved file
+  print-proved = record {
+    lines = lines-are;
+    least = λ i called. rw (least-told i called) at (day-least (day file) (metres file) arrays none i called);
+    floored = rw floor-told at (day-floor (day file) (metres file) arrays none);
+  }

@@ -1,0 +1,51 @@
+-- What the print of an accepted file promises, from its bytes to its figures: the answer to the hirer who asks how anyone can know
+-- that the calls could not have been served on less.
+use Prim.Native.Nat.{ℕ, suc, _<_}
+use mathlib.Core.List.{List, []}
+use mathlib.Core.Path.{_≡_}
+use lib.ListN.{getD, take}
+use Rattle.road.specs.Table.{metresOf}
+use Rattle.dayfile.specs.declared.Day.{Day}
+use Rattle.dayfile.specs.Day.{dayStarts, dayRequests}
+use Rattle.dayfile.specs.File.{readFile, readTable}
+use Rattle.workfunction.specs.Lists.{sumBelow}
+use Rattle.workfunction.specs.Movement.{LeastTo, LeastOfAll, floor}
+use Rattle.workfunction.specs.Serving.{Served, served, standsAfter}
+use Rattle.report.specs.Text.{dayText}
+use Rattle.report.specs.Report.{printOf}
+
+module _ (file : List ℕ) where
+  -- the day that the file holds, and the metres between its places
+  abbrev pub day : Day
+  day = readFile file .day
+
+  abbrev pub metres : ℕ → ℕ → ℕ
+  metres = metresOf (readTable file)
+
+  abbrev pub starts : List ℕ
+  starts = dayStarts day
+
+  abbrev pub calls : List ℕ
+  calls = dayRequests day
+
+  -- where the cranes stand once the first i calls are served
+  abbrev pub standsThen : ℕ → List ℕ
+  standsThen i = standsAfter metres (day .places) starts [] starts (take i calls)
+
+  -- call i: the crane that the Work Function Algorithm chooses at the stands then, its drive, and the least cost after it
+  abbrev pub told : ℕ → Served
+  told i = served metres (day .places) starts (take i calls) (standsThen i) (getD calls i 0)
+
+  abbrev pub driven : ℕ
+  driven = sumBelow (day .calls) (λ i. told i .metres)
+
+  abbrev pub lowest : ℕ
+  lowest = floor metres (day .places) starts calls
+
+  pub record PrintProved : Type 0 where
+    -- the print is a line for each call and the last line, with these figures
+    pub lines : printOf file ≡ dayText (day .calls) (λ i. told i .crane) (λ i. told i .metres) (λ i. told i .least) driven lowest
+    -- the least of call i is the least cost of all movements that serve the calls up to it and end at the stands then
+    pub least : (i : ℕ) → i < day .calls → LeastTo metres (day .places) starts (take (suc i) calls) (standsThen (suc i)) (told i .least)
+    -- the floor is the least cost of all movements that serve the calls, wherever they end
+    pub floored : LeastOfAll metres (day .places) starts calls lowest
