@@ -16,7 +16,7 @@ use Rattle.workfunction.proofs.Serving.{serve-at}
 use Rattle.workfunction.proofs.Sums.{sum-same}
 use Rattle.book.specs.Serving.{nth, unserved, servedDay}
 use Rattle.book.proofs.Promise.{day-least, day-floor}
-use Rattle.report.specs.Promise.{day, metres, starts, calls, told, driven, lowest, PrintProved}
+use Rattle.report.specs.Promise.{day, d, starts, calls, told, driven, lowest, PrintProved}
 use Rattle.report.specs.Report.{figuresText, printOf}
 use Rattle.report.specs.Text.{callLines, lastLine, dayText}
 
@@ -34,7 +34,7 @@ callLines-same (suc m) a b c =
     )
 
 module _ (file : List ℕ) (accepted : readFile file .number ≡ 0) where
-  none : dayRefusal (day file) (metres file) ≡ 0
+  none : dayRefusal (day file) (d file) ≡ 0
   none = file-accepted file accepted
 
   arrays : DayArrays (day file)
@@ -42,14 +42,14 @@ module _ (file : List ℕ) (accepted : readFile file .number ≡ 0) where
 
   -- the calls served in turn
   all : List Served
-  all = serve (metres file) (day file .places) (starts file) [] (starts file) (calls file)
+  all = serve (d file) (day file .places) (starts file) [] (starts file) (calls file)
 
   module _ (i : ℕ) (called : i < day file .calls) where
     told-is : nth all i ≡ told file i
     unfolding all
     told-is =
-        let long = length-take-le (day file .calls) (day file .requests) (rw (arrays .requests) (day-tested (day file) (metres file) none .counts .calls)) in
-        serve-at (metres file) (day file .places) (starts file) unserved [] (starts file) (calls file) i (rw long called)
+        let long = length-take-le (day file .calls) (day file .requests) (rw (arrays .requests) (day-tested (day file) (d file) none .counts .calls)) in
+        serve-at (d file) (day file .places) (starts file) unserved [] (starts file) (calls file) i (rw long called)
 
     -- a figure of call i, in its array
     figure-is : (figure : Served → ℕ) → getD (padded 256 (day file .calls) (λ j. figure (nth all j)) 0) i 0 ≡ figure (told file i)
@@ -64,11 +64,11 @@ module _ (file : List ℕ) (accepted : readFile file .number ≡ 0) where
       (callLines-same (day file .calls) (λ i l. figure-is i l (λ s. s .crane)) (λ i l. figure-is i l (λ s. s .metres)) (λ i l. figure-is i l (λ s. s .least)))
       (sum-same (day file .calls) _ _ (λ i l. ap (λ (s : Served). s .metres) (told-is i l))))
 
-  least-told : (i : ℕ) → i < day file .calls → getD (servedDay (day file) (metres file) .leasts) i 0 ≡ told file i .least
+  least-told : (i : ℕ) → i < day file .calls → getD (servedDay (day file) (d file) .leasts) i 0 ≡ told file i .least
   unfolding servedDay all
   least-told i called = rw none (figure-is i called (λ s. s .least))
 
-  floor-told : servedDay (day file) (metres file) .floor ≡ lowest file
+  floor-told : servedDay (day file) (d file) .floor ≡ lowest file
   unfolding servedDay
   floor-told = rw none
 
@@ -76,6 +76,6 @@ module _ (file : List ℕ) (accepted : readFile file .number ≡ 0) where
   pub print-proved : PrintProved file
   print-proved = record {
     lines = lines-are;
-    least = λ i called. rw (least-told i called) at (day-least (day file) (metres file) arrays none i called);
-    floored = rw floor-told at (day-floor (day file) (metres file) arrays none);
+    least = λ i called. rw (least-told i called) at (day-least (day file) (d file) arrays none i called);
+    floored = rw floor-told at (day-floor (day file) (d file) arrays none);
   }

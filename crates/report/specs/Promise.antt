@@ -15,12 +15,12 @@ use Rattle.report.specs.Text.{dayText}
 use Rattle.report.specs.Report.{printOf}
 
 module _ (file : List ℕ) where
-  -- the day that the file holds, and the metres between its places
+  -- the day that the file holds, and "d(u,w) the metres from u to w"
   abbrev pub day : Day
   day = readFile file .day
 
-  abbrev pub metres : ℕ → ℕ → ℕ
-  metres = metresOf (readTable file)
+  abbrev pub d : ℕ → ℕ → ℕ
+  d = metresOf (readTable file)
 
   abbrev pub starts : List ℕ
   starts = dayStarts day
@@ -30,22 +30,22 @@ module _ (file : List ℕ) where
 
   -- where the cranes stand once the first i calls are served
   abbrev pub standsThen : ℕ → List ℕ
-  standsThen i = standsAfter metres (day .places) starts [] starts (take i calls)
+  standsThen i = standsAfter d (day .places) starts [] starts (take i calls)
 
   -- call i: the crane that the Work Function Algorithm chooses at the stands then, its drive, and the least cost after it
   abbrev pub told : ℕ → Served
-  told i = served metres (day .places) starts (take i calls) (standsThen i) (getD calls i 0)
+  told i = served d (day .places) starts (take i calls) (standsThen i) (getD calls i 0)
 
   abbrev pub driven : ℕ
   driven = sumBelow (day .calls) (λ i. told i .metres)
 
   abbrev pub lowest : ℕ
-  lowest = floor metres (day .places) starts calls
+  lowest = floor d (day .places) starts calls
 
   pub record PrintProved : Type 0 where
     -- the print is a line for each call and the last line, with these figures
     pub lines : printOf file ≡ dayText (day .calls) (λ i. told i .crane) (λ i. told i .metres) (λ i. told i .least) driven lowest
     -- the least of call i is the least cost of all movements that serve the calls up to it and end at the stands then
-    pub least : (i : ℕ) → i < day .calls → LeastTo metres (day .places) starts (take (suc i) calls) (standsThen (suc i)) (told i .least)
+    pub least : (i : ℕ) → i < day .calls → LeastTo d (day .places) starts (take (suc i) calls) (standsThen (suc i)) (told i .least)
     -- the floor is the least cost of all movements that serve the calls, wherever they end
-    pub floored : LeastOfAll metres (day .places) starts calls lowest
+    pub floored : LeastOfAll d (day .places) starts calls lowest
