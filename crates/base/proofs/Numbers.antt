@@ -63,6 +63,12 @@ pub zeros-told : {A : Type 0} (n : ℕ) (values : A) (zeros : ℕ → A) → (n 
 zeros-told zero values zeros h = absurd (h refl)
 zeros-told (suc n) values zeros h = refl
 
+-- what holds of the values and of what goes with each number, holds of what is told
+pub either-told : {A : Type 0} (P : A → Type 0) (n : ℕ) (values : A) (zeros : ℕ → A) → (n ≡ 0 → P values) → ((k : ℕ) → P (zeros k))
+    → P (unlessRefused n values zeros)
+either-told P zero values zeros p q = p refl
+either-told P (suc n) values zeros p q = q (suc n)
+
 -- an answer whose number is 0 is that of an accepted input
 pub accepted-values : {A : Type 0} (n : ℕ) (values : A) (zeros : ℕ → A) (told : A → ℕ) → ((m : ℕ) → told (zeros m) ≡ m)
     → told (unlessRefused n values zeros) ≡ 0 → n ≡ 0
@@ -116,5 +122,4 @@ module _ (v : Verdict) where
 
     -- a refusal is handed up with its number, whatever test was to come after it
     pub handed-up : (s t : ℕ) → numberOf v ≡ s → numberOf v ≡ (s then t)
-    handed-up zero t h = absurd (refused-number h)
-    handed-up (suc s) t h = h
+    handed-up s t h = h ∙ refused-first s t (λ e. refused-number (h ∙ e))

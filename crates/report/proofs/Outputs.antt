@@ -1,15 +1,14 @@
 -- What the print is, from what reading the file and serving its day gave, and that it fits its array.
 -- Assumes nothing.
-use Prim.Native.Nat.{ℕ, zero, suc, _≤_, zero-le}
+use Prim.Native.Nat.{ℕ, _≤_, zero-le}
 use mathlib.Core.List.{List}
-use mathlib.Core.Path.{_≡_, refl}
+use mathlib.Core.Path.{_≡_}
 use lib.ListN.{length, getD, replicate}
 use native.Mathlib.Nat.{zero-add}
 use native.Mathlib.Omega.{arith}
 use Rattle.base.specs.Lists.{splice}
-use Rattle.base.specs.Numbers.{unlessRefused}
 use Rattle.base.proofs.Lists.{drop-replicate}
-use Rattle.base.proofs.Numbers.{zeros-told}
+use Rattle.base.proofs.Numbers.{zeros-told, either-told}
 use Rattle.road.specs.Table.{metresOf}
 use Rattle.dayfile.specs.declared.Day.{Day}
 use Rattle.dayfile.specs.Day.{dayRefusal}
@@ -22,12 +21,6 @@ use Rattle.report.specs.Text.{callLines, lastLine, refusedLine, dayText}
 use Rattle.report.specs.Put.{Put}
 use Rattle.report.specs.Report.{figuresText, printOf, printed}
 use Rattle.report.proofs.text.Laws.{put-on, calls-most, day-fits, length-lastLine, length-refusedLine}
-
--- what holds of the values and of what goes with each number, holds of what is told
-either-told : {A : Type 0} (P : A → Type 0) (n : ℕ) (values : A) (zeros : ℕ → A) → (n ≡ 0 → P values) → ((k : ℕ) → P (zeros k))
-    → P (unlessRefused n values zeros)
-either-told P zero values zeros p q = p refl
-either-told P (suc n) values zeros p q = q (suc n)
 
 -- ---- a served day
 
