@@ -1,6 +1,6 @@
 -- `road::triangles::test_by` meets its contract: the loop keeps whether no way from u by v to a place below w is shorter than the road.
 -- Assumes nothing.
-use Prim.Native.Nat.{ℕ, _+_, _-_, _≤_, zero-le}
+use Prim.Native.Nat.{ℕ, _-_, _≤_, zero-le}
 use mathlib.Core.Bool.{Bool, true, false, _&&_}
 use mathlib.Core.List.{List}
 use mathlib.Core.Path.{_≡_, refl, sym, ap₂, subst, _∙_}
