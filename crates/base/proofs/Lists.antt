@@ -5,7 +5,7 @@ use mathlib.Core.List.{List, [], _∷_, _++_, map, append-assoc}
 use mathlib.Core.Path.{_≡_, refl, sym, ap, subst, _∙_}
 use lib.ListN.{length, getD, set, take, drop, replicate, length-replicate, length-set, length-append, length-drop, take-append-drop, List·getD-append}
 use lib.Seq.{set-at, drop-cons, take-at, drop-at, drop-drop, length-take-le, append-snoc, getD-take, getD-drop, getD-append-add, ext-getD}
-use native.Mathlib.Nat.{add-zero, zero-add, add-assoc, not-suc-le-zero, le-of-suc-le-suc, le-antisymm, sub-zero, zero-sub, suc-sub-suc}
+use native.Mathlib.Nat.{add-zero, zero-add, suc-add, add-assoc, not-suc-le-zero, le-of-suc-le-suc, le-antisymm, sub-zero, zero-sub, suc-sub-suc}
 use native.Mathlib.Numerals.{add-one}
 use native.Mathlib.Omega.{arith}
 use Rattle.base.specs.Lists.{upTo, padded, splice}
@@ -35,6 +35,12 @@ module _ {A : Type 0} where
 
   pub upTo-more : (n : ℕ) (f : ℕ → A) → upTo (n + 1) f ≡ upTo n f ++ (f n ∷ [])
   upTo-more n f = rw add-one (upTo-suc n f)
+
+  -- a list in two parts
+  pub upTo-append : (n m : ℕ) (f : ℕ → A) → upTo (n + m) f ≡ upTo n f ++ upTo m (λ i. f (n + i))
+  unfolding upTo
+  upTo-append zero m f = rw zero-add (upTo-same m _ _ (λ i h. rw zero-add))
+  upTo-append (suc n) m f = rw (suc-add n m) (ap (λ (l : List A). f 0 ∷ l) (upTo-append n m (λ i. f (suc i)) ∙ rw (upTo-same m _ _ (λ i h. ap f (sym (suc-add n i))))))
 
   -- a part of a list by its indices
   pub part-upTo : (n : ℕ) (l : List A) (i : ℕ) (z : A) → i + n ≤ length l → take n (drop i l) ≡ upTo n (λ j. getD l (i + j) z)

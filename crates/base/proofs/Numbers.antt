@@ -1,6 +1,6 @@
 -- What the number of a verdict tells: of the rule that was tested, and of the tests that come after.
 -- Assumes nothing.
-use Prim.Native.Nat.{ℕ, zero, suc}
+use Prim.Native.Nat.{ℕ, zero, suc, _+_, _<_}
 use mathlib.Core.Bool.{Bool, true, false, _&&_}
 use mathlib.Core.Path.{_≡_, refl, sym, ap, _∙_}
 use mathlib.Core.List.{List, [], _∷_}
@@ -11,6 +11,8 @@ use Rattle.base.specs.declared.Refusal.the-variants.{Length, Record, Ord
 use Rattle.base.specs.declared.Verdict.{Verdict}
 use Rattle.base.specs.declared.Verdict.the-variants.{Accepted, Refused}
 use Rattle.base.specs.Numbers.{refusalNumber, numberOf, unless, _then_, unlessRefused}
+use Rattle.base.specs.Tests.{allBelow}
+use Rattle.base.proofs.Tests.{Passed, turned, below-fails}
 
 -- the verdicts in the order of their numbers
 verdicts : List Verdict
@@ -48,6 +50,11 @@ unless-zero false k h = absurd (let z : suc k ≡ 0 = h in omega arith)
 pub then-zero : (s t : ℕ) → (s then t) ≡ 0 → (s ≡ 0) × (t ≡ 0)
 then-zero zero t h = (refl, h)
 then-zero (suc s) t h = absurd (let z : suc s ≡ 0 = h in omega arith)
+
+-- the first refusal of three tests, whichever two are taken together
+pub then-assoc : (a b c : ℕ) → ((a then b) then c) ≡ (a then (b then c))
+then-assoc zero b c = refl
+then-assoc (suc a) b c = refl
 
 -- a first test that refuses is the one that is told
 pub refused-first : (s t : ℕ) → (s ≡ 0 → ⊥) → s ≡ (s then t)
@@ -103,6 +110,10 @@ module _ (v : Verdict) where
       → n ≡ unless (a && b) (suc k)
   second-decides a b k n e h q = rw (holds a k e h) q
 
+  -- an accepted verdict: a loop of such tests goes on
+  pub turns : (n i k : ℕ) (P : ℕ → Bool) → v ≡ Accepted → numberOf v ≡ unless (P i) (suc k) → i < n → Passed n P i → Passed n P (i + 1)
+  turns n i k P e h lt p = turned n P i p lt (holds (P i) k e h)
+
   module _ (x : Refusal) (e : v ≡ Refused x) where
     -- a refusal has a number other than 0
     pub refused-number : numberOf v ≡ 0 → ⊥
@@ -115,6 +126,10 @@ module _ (v : Verdict) where
     -- a refusal of one is a refusal of all, under the same number
     pub stops : (b all : Bool) (r : ℕ) → numberOf v ≡ unless b r → (b ≡ false → all ≡ false) → numberOf v ≡ unless all r
     stops b all r h f = h ∙ rw (broken b r h, f (broken b r h))
+
+    -- a loop of tests under one number is refused by the first that refuses
+    pub stops-below : (n i r : ℕ) (P : ℕ → Bool) → numberOf v ≡ unless (P i) r → i < n → numberOf v ≡ unless (allBelow n P) r
+    stops-below n i r P h lt = stops (P i) (allBelow n P) r h (below-fails P n i lt)
 
     -- of two rules under one number the first refuses
     pub first-stops : (a b : Bool) (r : ℕ) → numberOf v ≡ unless a r → numberOf v ≡ unless (a && b) r

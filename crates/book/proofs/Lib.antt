@@ -1,11 +1,5 @@
-pub mod Fresh
+pub mod Places
+pub mod Vouching
 pub mod Sound
-pub mod Roads
+pub mod FreshBook
 pub mod Ignored
-pub mod Tidy
-pub mod Insertion
-pub mod Answered
-pub mod FreeEnds
-pub mod Carried
-pub mod DayServed
-pub mod Promise

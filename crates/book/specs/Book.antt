@@ -9,12 +9,16 @@ use lib.Signed.{leZ}
 use Rattle.base.specs.Lists.{padded}
 use Rattle.base.specs.Numbers.{unless, _then_, unlessRefused, numberOf}
 use Rattle.base.specs.Tests.{allBelow}
-use Rattle.road.specs.Table.{legsRefusal, triangleRefusal}
-use Rattle.dayfile.specs.Day.{countsRefusal, stopsRefusal, dayRefusal}
+use Rattle.road.specs.Table.{Table, metresOf, triangleRefusal}
+use Rattle.dayfile.specs.Day.{mostCranes, mostCalls, stopsRefusal, placedRefusal, dayRefusal}
 use Rattle.dayfile.specs.declared.Day.{Day}
 use Rattle.workfunction.specs.Plan.{planRule, vouchRule, legCost}
 use Rattle.book.specs.declared.Book.{Book}
 use Rattle.book.specs.declared.Opening.{Opening}
+
+-- the most stops of a book, and the most followers
+abbrev pub mostStops : ℕ
+mostStops = mostCranes + mostCalls
 
 -- "Entries past the counts .. are ignored on the way in"
 abbrev pub startsOf : Book → List ℕ
@@ -56,9 +60,9 @@ weightsRefusal k n plan weights c = unless (rangeRule n (weight weights) && vouc
 
 -- the lengths that a book's arrays of places have by their types: a definition sees an array as a list
 pub record BookArrays (book : Book) : Type 0 where
-  pub starts : length (book .starts) ≡ 16
-  pub stands : length (book .stands) ≡ 16
-  pub requests : length (book .requests) ≡ 256
+  pub starts : length (book .starts) ≡ mostCranes
+  pub stands : length (book .stands) ≡ mostCranes
+  pub requests : length (book .requests) ≡ mostCalls
 
 -- "Entries past the counts, the road table's included, are ignored on the way in": two books are the same if their counts
 -- and the entries within them are.
@@ -71,14 +75,18 @@ pub record SameBook (a b : Book) : Type 0 where
   pub plan : (p : ℕ) → p < stopsOf b → follower (a .plan) p ≡ follower (b .plan) p
   pub weights : (p : ℕ) → p < stopsOf b → weight (a .weights) p ≡ weight (b .weights) p
 
+-- the day of a book, beside n places
+abbrev pub bookDay : Book → ℕ → Day
+bookDay book n = record { places = n; cranes = book .cranes; calls = book .calls; starts = book .starts; requests = book .requests }
+
 -- "In memory: 3, 6, 7, 4, 5 (starts, calls, stands), 8, 9, 10". "A book is sound if none of 3 to 10 .. applies to it and its
 -- table": where this is 0.
-unfoldable pub bookRefusal : Book → ℕ → (ℕ → ℕ → ℕ) → ℕ
-bookRefusal book n d =
-    countsRefusal n (book .cranes) (book .calls) then legsRefusal n d then
-    stopsRefusal n (startsOf book) then stopsRefusal n (requestsOf book) then stopsRefusal n (standsOf book) then
-    triangleRefusal n d then planRefusal (book .cranes) (stopsOf book) (book .plan) then
-    weightsRefusal (book .cranes) (stopsOf book) (book .plan) (book .weights) (legCost d (startsOf book) (requestsOf book) (standsOf book))
+unfoldable pub bookRefusal : Book → ℕ → Table → ℕ
+bookRefusal book n t =
+    placedRefusal (bookDay book n) t then stopsRefusal n (standsOf book) then triangleRefusal n t then
+    planRefusal (book .cranes) (stopsOf book) (book .plan) then
+    weightsRefusal (book .cranes) (stopsOf book) (book .plan) (book .weights)
+    (legCost (metresOf t) (startsOf book) (requestsOf book) (standsOf book))
 
 -- "A fresh book has no calls, stands equal to starts, start j followed by stand j, and weights 0; it is sound." "Entries past
 -- the counts .. are 0 in a returned .. book". Of the number of cranes and the starts of a day.
@@ -87,11 +95,11 @@ freshBook k starts =
     record {
       cranes = k;
       calls = 0;
-      starts = padded 16 k (λ j. getD starts j 0) 0;
-      stands = padded 16 k (λ j. getD starts j 0) 0;
-      requests = replicate 256 0;
-      plan = padded 272 k (λ j. j) 0;
-      weights = replicate 272 (pos 0);
+      starts = padded mostCranes k (λ j. getD starts j 0) 0;
+      stands = padded mostCranes k (λ j. getD starts j 0) 0;
+      requests = replicate mostCalls 0;
+      plan = padded mostStops k (λ j. j) 0;
+      weights = replicate mostStops (pos 0);
     }
 
 -- "other results 0"
@@ -100,11 +108,11 @@ emptyBook =
     record {
       cranes = 0;
       calls = 0;
-      starts = replicate 16 0;
-      stands = replicate 16 0;
-      requests = replicate 256 0;
-      plan = replicate 272 0;
-      weights = replicate 272 (pos 0);
+      starts = replicate mostCranes 0;
+      stands = replicate mostCranes 0;
+      requests = replicate mostCalls 0;
+      plan = replicate mostStops 0;
+      weights = replicate mostStops (pos 0);
     }
 
 -- the number, 0 where the book is opened; the book
@@ -116,7 +124,7 @@ abbrev pub opening : Opening → Opened
 opening r = record { number = numberOf (r .verdict); book = r .book }
 
 -- "Opening a fresh book and writing a day run the same tests on what they are given"
-unfoldable pub freshOf : Day → (ℕ → ℕ → ℕ) → Opened
-freshOf day d =
-    unlessRefused (dayRefusal day d) (record { number = 0; book = freshBook (day .cranes) (day .starts) })
+unfoldable pub freshOf : Day → Table → Opened
+freshOf day t =
+    unlessRefused (dayRefusal day t) (record { number = 0; book = freshBook (day .cranes) (day .starts) })
     (λ n. record { number = n; book = emptyBook })

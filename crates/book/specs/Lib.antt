@@ -1,5 +1,2 @@
 pub mod Book
-pub mod Legs
-pub mod Search
-pub mod Serving
-pub mod Insertion
+pub mod Weights

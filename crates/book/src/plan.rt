@@ -1,17 +1,15 @@
-// The test of a plan: each stop's follower may follow it, and every call and every stand follows exactly one stop. Its cost.
-use crate::legs;
+// The test of a plan: each stop's follower may follow it, and every call and every stand follows exactly one stop.
 use base::Refusal;
 use base::Verdict;
 ghost use mathlib.Core.Path.{_≡_};
 ghost use mathlib.Core.Bool.{_&&_};
-ghost use Prim.Native.Nat.{ℕ, _*_, _<_, _≤_};
+ghost use Prim.Native.Nat.{_≤_};
 ghost use lib.Dec.{ltb};
 ghost use lib.ListN.{length};
 ghost use Rattle.base.specs.Numbers.{numberOf, unless};
 ghost use Rattle.workfunction.specs.Lists.{sumBelow};
-ghost use Rattle.workfunction.specs.Plan.{mayFollow, follows, followersRule, onceRule, planRule, planCost};
+ghost use Rattle.workfunction.specs.Plan.{mayFollow, follows, followersRule, onceRule, planRule};
 ghost use Rattle.book.specs.Book.{follower};
-ghost use Rattle.book.specs.Legs.{legAt};
 
 // 9 unless a follower is in range and may follow stop p.
 fn test_follower(cranes: usize, stops: usize, p: usize, b: usize) -> Verdict
@@ -87,18 +85,4 @@ pub(crate) fn test(cranes: usize, stops: usize, plan: &[u16]) -> Verdict
         return followed;
     };
     test_once(stops, plan)
-}
-
-// The cost of a plan: the sum of the legs from each stop to its follower.
-pub(crate) fn cost(stops: usize, plan: &[u16], costs: &[u32]) -> u64
-    requires { ⌜ (stops ≤ 272) × ((stops ≤ length (now plan)) × ((272 * 272 ≤ length (now costs)) × ((p : ℕ) → p < stops → follower (now plan) p < stops))) ⌝ }
-    ensures { λ r. ⌜ r ≡ planCost stops (legAt (now (costs .entry))) (follower (now (plan .entry))) ⌝ }
-{
-    let mut sum = 0;
-    let mut p = 0;
-    while p < stops {
-        sum += legs::cost(costs, p, plan[p] as usize) as u64;
-        p += 1;
-    }
-    sum
 }

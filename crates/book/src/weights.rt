@@ -1,21 +1,21 @@
-// The test of weights, the dual variables, each within its range and together vouching for the plan, and new ones from net costs.
+// The test of weights, the dual variables: each within its range, and together vouching for the plan.
 use crate::Book;
-use crate::legs;
-use crate::search;
 use base::Refusal;
 use base::Verdict;
-ghost use mathlib.Core.Bool.{true};
+use road::Road;
+use road::Table;
+ghost use mathlib.Core.Bool.{true, cond};
 ghost use mathlib.Core.Path.{_≡_};
-ghost use Prim.Native.Nat.{ℕ, _*_, _<_, _≤_};
+ghost use Prim.Native.Nat.{_<_, _≤_};
 ghost use lib.IntN.{pos, _-ℤ_};
 ghost use lib.ListN.{length};
 ghost use lib.Signed.{leZ};
 ghost use Rattle.base.specs.Numbers.{numberOf, unless};
 ghost use Rattle.base.specs.Tests.{allBelow};
-ghost use Rattle.workfunction.specs.Plan.{slackRule, vouchAt, vouchRule};
+ghost use Rattle.road.specs.Table.{metresOf, entry};
+ghost use Rattle.workfunction.specs.Plan.{mayFollow, vouchAt, vouchRule, legCost};
 ghost use Rattle.book.specs.Book.{follower, weight, weightRule, rangeRule, weightsRefusal};
-ghost use Rattle.book.specs.Legs.{legAt, Followed, Weighed};
-ghost use Rattle.book.specs.Search.{at, netOf, Totalled, Matched, Reweighed};
+ghost use Rattle.book.specs.Weights.{Followed, Weighed};
 
 // 10 unless a weight is within its range.
 fn test_weight(y: i64) -> Verdict
@@ -57,56 +57,50 @@ fn test_slack(y: i64, kept: i64, leg: u32, own: u32) -> Verdict
     Verdict::Refused(Refusal::Weights)
 }
 
-// 10 unless the inequality of stop p and follower b holds.
-fn test_leg(plan: &[u16], weights: &[i64], costs: &[u32], p: usize, b: usize) -> Verdict
-    requires { ⌜ ((n : ℕ) × ((p < n) × ((b < n) × Weighed n (now plan) (now weights) (now costs)))) ⌝ }
-    ensures { λ r. ⌜ numberOf r ≡ unless (slackRule (follower (now (plan .entry))) (legAt (now (costs .entry))) (weight (now (weights .entry))) p b) 10 ⌝ }
+// The cost of the leg from stop p to follower b.
+fn leg(table: &Table, starts: &[u16], calls: &[u16], stands: &[u16], p: usize, b: usize) -> u32
+    ensures { λ r. ⌜ r ≡ legCost (entry (metresOf (now (table .entry)))) (now (starts .entry)) (now (calls .entry)) (now (stands .entry)) p b ⌝ }
 {
-    let kept = plan[p] as usize;
-    test_slack(
-        weights[b],
-        weights[kept],
-        legs::cost(costs, p, b),
-        legs::cost(costs, p, kept),
-    )
+    let from = Book::place_of(starts, calls, p) as usize;
+    let to = Book::place_of(stands, calls, b) as usize;
+    Road::metres(table, from, to)
 }
 
-// The same, where b may follow p.
-fn test_at(
-    cranes: usize,
-    plan: &[u16],
-    weights: &[i64],
-    costs: &[u32],
-    p: usize,
-    b: usize,
-) -> Verdict
-    requires { ⌜ ((n : ℕ) × ((p < n) × ((b < n) × Weighed n (now plan) (now weights) (now costs)))) ⌝ }
-    ensures { λ r. ⌜ numberOf r ≡ unless (vouchAt cranes (follower (now (plan .entry))) (legAt (now (costs .entry))) (weight (now (weights .entry))) p b) 10 ⌝ }
+// 10 unless the inequality of stop p and follower b holds, where b may follow p: y and leg are those of b, kept and own those of
+// the follower of p.
+fn test_at(cranes: usize, p: usize, b: usize, y: i64, kept: i64, leg: u32, own: u32) -> Verdict
+    requires { ⌜ (weightRule y ≡ true) × (weightRule kept ≡ true) ⌝ }
+    ensures { λ r. ⌜ numberOf r ≡ unless (cond (mayFollow cranes p b) (leZ (y -ℤ kept) (pos leg -ℤ pos own)) true) 10 ⌝ }
 {
     if b < cranes {
-        return test_leg(plan, weights, costs, p, b);
+        return test_slack(y, kept, leg, own);
     }
     if p < b {
-        return test_leg(plan, weights, costs, p, b);
+        return test_slack(y, kept, leg, own);
     }
     Verdict::Accepted
 }
 
 // 10 unless the inequality of stop p holds for every b that may follow it.
 fn test_from(
-    cranes: usize,
+    table: &Table,
+    starts: &[u16],
+    calls: &[u16],
+    stands: &[u16],
     stops: usize,
     plan: &[u16],
     weights: &[i64],
-    costs: &[u32],
     p: usize,
 ) -> Verdict
-    requires { ⌜ (p < stops) × Weighed stops (now plan) (now weights) (now costs) ⌝ }
-    ensures { λ r. ⌜ numberOf r ≡ unless (allBelow stops (vouchAt cranes (follower (now (plan .entry))) (legAt (now (costs .entry))) (weight (now (weights .entry))) p)) 10 ⌝ }
+    requires { ⌜ (p < stops) × Weighed stops (now plan) (now weights) ⌝ }
+    ensures { λ r. ⌜ numberOf r ≡ unless (allBelow stops (vouchAt (length (now (starts .entry))) (follower (now (plan .entry))) (legCost (entry (metresOf (now (table .entry)))) (now (starts .entry)) (now (calls .entry)) (now (stands .entry))) (weight (now (weights .entry))) p)) 10 ⌝ }
 {
+    let kept = plan[p] as usize;
+    let own = leg(table, starts, calls, stands, p, kept);
     let mut b = 0;
     while b < stops {
-        let vouched = test_at(cranes, plan, weights, costs, p, b);
+        let way = leg(table, starts, calls, stands, p, b);
+        let vouched = test_at(starts.len(), p, b, weights[b], weights[kept], way, own);
         let Verdict::Accepted = vouched else {
             return vouched;
         };
@@ -117,18 +111,20 @@ fn test_from(
 
 // 10 unless the weights vouch for the plan.
 fn test_vouching(
-    cranes: usize,
+    table: &Table,
+    starts: &[u16],
+    calls: &[u16],
+    stands: &[u16],
     stops: usize,
     plan: &[u16],
     weights: &[i64],
-    costs: &[u32],
 ) -> Verdict
-    requires { ⌜ Weighed stops (now plan) (now weights) (now costs) ⌝ }
-    ensures { λ r. ⌜ numberOf r ≡ unless (vouchRule cranes stops (follower (now (plan .entry))) (legAt (now (costs .entry))) (weight (now (weights .entry)))) 10 ⌝ }
+    requires { ⌜ Weighed stops (now plan) (now weights) ⌝ }
+    ensures { λ r. ⌜ numberOf r ≡ unless (vouchRule (length (now (starts .entry))) stops (follower (now (plan .entry))) (legCost (entry (metresOf (now (table .entry)))) (now (starts .entry)) (now (calls .entry)) (now (stands .entry))) (weight (now (weights .entry)))) 10 ⌝ }
 {
     let mut p = 0;
     while p < stops {
-        let vouched = test_from(cranes, stops, plan, weights, costs, p);
+        let vouched = test_from(table, starts, calls, stands, stops, plan, weights, p);
         let Verdict::Accepted = vouched else {
             return vouched;
         };
@@ -137,34 +133,22 @@ fn test_vouching(
     Verdict::Accepted
 }
 
-// 10 unless the weights are within their range and vouch for the plan.
+// 10 unless the weights are within their range and vouch for the plan, over the legs of the table.
 pub(crate) fn test(
-    cranes: usize,
+    table: &Table,
+    starts: &[u16],
+    calls: &[u16],
+    stands: &[u16],
     stops: usize,
     plan: &[u16],
     weights: &[i64],
-    costs: &[u32],
 ) -> Verdict
-    requires { ⌜ Followed stops (now plan) (now weights) (now costs) ⌝ }
-    ensures { λ r. ⌜ numberOf r ≡ weightsRefusal cranes stops (now (plan .entry)) (now (weights .entry)) (legAt (now (costs .entry))) ⌝ }
+    requires { ⌜ Followed stops (now plan) (now weights) ⌝ }
+    ensures { λ r. ⌜ numberOf r ≡ weightsRefusal (length (now (starts .entry))) stops (now (plan .entry)) (now (weights .entry)) (legCost (entry (metresOf (now (table .entry)))) (now (starts .entry)) (now (calls .entry)) (now (stands .entry))) ⌝ }
 {
     let ranged = test_range(stops, weights);
     let Verdict::Accepted = ranged else {
         return ranged;
     };
-    test_vouching(cranes, stops, plan, weights, costs)
-}
-
-// The new weights: of each stop's follower the opposite of the net cost of freeing it.
-pub(crate) fn renew(new: usize, plan: &[u16], totals: &[u64], costs: &[u32], weights: &mut [i64])
-    requires { ⌜ (new < 272) × ((new < length (now plan)) × ((new < length (now totals)) × ((new < length (now weights)) × ((272 * 272 ≤ length (now costs)) × (Matched new (follower (now plan)) × Totalled new (follower (now plan)) (legAt (now costs)) (at (now totals))))))) ⌝ }
-    ensures { λ _. ⌜ Reweighed new (follower (now (plan .entry))) (netOf (follower (now (plan .entry))) (legAt (now (costs .entry))) (at (now (totals .entry)))) (weight (now (weights .entry))) (weight (now (weights .exit))) ⌝ }
-{
-    let mut p = 0;
-    while p <= new {
-        let b = plan[p] as usize;
-        let net = search::net_cost(totals[p], legs::cost(costs, p, b));
-        weights[b] = -net;
-        p += 1;
-    }
+    test_vouching(table, starts, calls, stands, stops, plan, weights)
 }

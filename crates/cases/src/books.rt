@@ -1,42 +1,32 @@
 // Books in memory: sound ones, each refusal and the order 3, 6, 7, 4, 5, 8, 9, 10, then 5 and 7 of a call; and that a refused call hands
 // back the book as it was given.
-use crate::refusals;
-use crate::small;
-use crate::tally::Tally;
+use crate::days;
+use crate::line;
+use crate::tables;
 use book::Book;
+use dispatch::Dispatch;
+use dispatch::Serving;
 use road::Table;
 ghost use Prim.Native.Nat.{_<_};
+ghost use Rattle.book.specs.Book.{mostStops};
 
-// The books that a row begins with: the full book with weights 0, at the ends of their range and past them; and a book of one crane without
-// calls, with entries past its counts.
-const FULL: u32 = 0;
+// The most that a weight may be, and one more.
+const MOST: i64 = Book::WEIGHT;
 
-const HIGH: u32 = 1;
+const OVER: i64 = Book::WEIGHT + 1;
 
-const LOW: u32 = 2;
-
-const OVER: u32 = 3;
-
-const UNDER: u32 = 4;
-
-const ONE: u32 = 5;
-
-// What a row changes in it.
+// What a case changes in a book.
 const NONE: u32 = 0;
 
-const CRANES: u32 = 1;
+const START: u32 = 1;
 
-const CALLS: u32 = 2;
+const STAND: u32 = 2;
 
-const START: u32 = 3;
+const CALL: u32 = 3;
 
-const CALL: u32 = 4;
+const PLAN: u32 = 4;
 
-const STAND: u32 = 5;
-
-const PLAN: u32 = 6;
-
-const WEIGHT: u32 = 7;
+const WEIGHT: u32 = 5;
 
 // The tables: two places and a leg of 7 metres; three places that break the triangle rule; the same and a self-leg that is not 0.
 const PAIR: u32 = 0;
@@ -45,79 +35,34 @@ const BROKEN: u32 = 1;
 
 const OWN: u32 = 2;
 
-const ROWS: usize = 31;
-
-// A book in each row: what it begins with; two changes, each by what is changed, where, and the new value; the number of places and the
-// table; the number that its test gives; the place of a call, and the number that the call gives.
-const BOOKS: [[u32; 12]; ROWS] = [
-    [ONE, NONE, 0, 0, NONE, 0, 0, 2, PAIR, 0, 0, 0],
-    [FULL, NONE, 0, 0, NONE, 0, 0, 2, PAIR, 0, 0, 7],
-    // Counts and places.
-    [FULL, NONE, 0, 0, NONE, 0, 0, 65, PAIR, 3, 0, 3],
-    [FULL, CRANES, 0, 0, NONE, 0, 0, 2, PAIR, 6, 0, 6],
-    [FULL, CRANES, 0, 17, NONE, 0, 0, 2, PAIR, 6, 0, 6],
-    [FULL, CALLS, 0, 257, NONE, 0, 0, 2, PAIR, 7, 0, 7],
-    [FULL, START, 15, 2, NONE, 0, 0, 2, PAIR, 5, 0, 5],
-    [FULL, CALL, 255, 2, NONE, 0, 0, 2, PAIR, 5, 0, 5],
-    [FULL, STAND, 15, 2, NONE, 0, 0, 2, PAIR, 5, 0, 5],
-    // The table.
-    [FULL, NONE, 0, 0, NONE, 0, 0, 3, OWN, 4, 0, 4],
-    [FULL, NONE, 0, 0, NONE, 0, 0, 3, BROKEN, 8, 0, 8],
-    // A plan that names a stand twice, one with a follower out of range, one that goes back to an earlier call.
-    [FULL, PLAN, 1, 2, NONE, 0, 0, 2, PAIR, 9, 0, 9],
-    [FULL, PLAN, 271, 272, NONE, 0, 0, 2, PAIR, 9, 0, 9],
-    [FULL, PLAN, 18, 21, PLAN, 20, 19, 2, PAIR, 9, 0, 9],
-    // Weights at the ends of their range and past them; that of a call, and that of a stand, above the others.
-    [HIGH, NONE, 0, 0, NONE, 0, 0, 2, PAIR, 0, 0, 7],
-    [LOW, NONE, 0, 0, NONE, 0, 0, 2, PAIR, 0, 0, 7],
-    [OVER, NONE, 0, 0, NONE, 0, 0, 2, PAIR, 10, 0, 10],
-    [UNDER, NONE, 0, 0, NONE, 0, 0, 2, PAIR, 10, 0, 10],
-    [FULL, WEIGHT, 271, 1, NONE, 0, 0, 2, PAIR, 10, 0, 10],
-    [FULL, WEIGHT, 15, 1, NONE, 0, 0, 2, PAIR, 10, 0, 10],
-    // A crane driven away: the last leg to its stand counts, and only the weights of stands tell that.
-    [FULL, STAND, 0, 1, NONE, 0, 0, 2, PAIR, 10, 0, 10],
-    [FULL, STAND, 0, 1, WEIGHT, 0, 7, 2, PAIR, 0, 0, 7],
-    // 3 before 6, 6 before 7, 7 before 4, 4 before 5, 5 before 8, 8 before 9, 9 before 10.
-    [FULL, CRANES, 0, 0, NONE, 0, 0, 0, PAIR, 3, 0, 3],
-    [FULL, CRANES, 0, 17, CALLS, 0, 257, 2, PAIR, 6, 0, 6],
-    [FULL, CALLS, 0, 257, NONE, 0, 0, 3, OWN, 7, 0, 7],
-    [FULL, STAND, 0, 3, NONE, 0, 0, 3, OWN, 4, 0, 4],
-    [FULL, STAND, 0, 3, NONE, 0, 0, 3, BROKEN, 5, 0, 5],
-    [FULL, PLAN, 1, 2, NONE, 0, 0, 3, BROKEN, 8, 0, 8],
-    [OVER, PLAN, 1, 2, NONE, 0, 0, 2, PAIR, 9, 0, 9],
-    // 10 before 5 of the call's place, and that before 7.
-    [OVER, NONE, 0, 0, NONE, 0, 0, 2, PAIR, 10, 2, 10],
-    [FULL, NONE, 0, 0, NONE, 0, 0, 2, PAIR, 0, 2, 5],
-];
-
-// The follower of stop p where the first crane serves every call in turn and every crane ends where it started.
-fn next(p: usize) -> u16
-    requires { ⌜ p < 272 ⌝ }
-    ensures { λ r. ⌜ r < 272 ⌝ }
-{
-    if p == 0 {
-        return Book::CRANES as u16;
+fn table(kind: u32) -> Table {
+    if kind == PAIR {
+        return tables::three(7, 0, 0);
     }
+    if kind == BROKEN {
+        return tables::three(10, 26, 15);
+    }
+    tables::with(tables::three(10, 26, 15), 1, 1, 1, 1)
+}
+
+// The follower of stop p, other than the first, where the first crane serves every call in turn and every crane ends where it started.
+fn next(p: usize) -> u16 {
     if p < Book::CRANES {
         return p as u16;
     }
-    if p < Book::STOPS - 1 {
-        return p as u16 + 1;
-    }
-    0
+    ((p % Book::STOPS + 1) % Book::STOPS) as u16
 }
 
-// The full book: all cranes and all calls, everyone at place 0, weights alike.
-fn full(weight: i64) -> Book {
+// The book of so many cranes and calls with everyone at place 0 and weights alike, and with all entries of a full book.
+fn full(weight: i64, cranes: usize, calls: usize) -> Book {
     let mut plan = [0; Book::STOPS];
-    let mut p = 0;
-    while p < Book::STOPS {
+    for p in 0..Book::STOPS {
         plan[p] = next(p);
-        p += 1;
     }
+    plan[0] = Book::CRANES as u16;
     Book {
-        cranes: Book::CRANES,
-        calls: Book::CALLS,
+        cranes,
+        calls,
         starts: [0; Book::CRANES],
         stands: [0; Book::CRANES],
         requests: [0; Book::CALLS],
@@ -126,239 +71,191 @@ fn full(weight: i64) -> Book {
     }
 }
 
-// Whether two lists of places, or of followers, are the same.
-fn same_numbers(a: &[u16], b: &[u16]) -> bool {
-    if a.len() != b.len() {
-        return false;
-    }
-    let mut i = 0;
-    while i < a.len() {
-        if a[i] != b[i] {
-            return false;
-        }
-        i += 1;
-    }
-    true
-}
-
-// Whether the starts of two books are the same in every entry; then their stands, calls, plans and weights.
-fn same_starts(a: Book, b: Book) -> bool {
-    let one = a.starts;
-    let other = b.starts;
-    same_numbers(&one[..], &other[..])
-}
-
-fn same_stands(a: Book, b: Book) -> bool {
-    let one = a.stands;
-    let other = b.stands;
-    same_numbers(&one[..], &other[..])
-}
-
-fn same_requests(a: Book, b: Book) -> bool {
-    let one = a.requests;
-    let other = b.requests;
-    same_numbers(&one[..], &other[..])
-}
-
-fn same_plan(a: Book, b: Book) -> bool {
-    let one = a.plan;
-    let other = b.plan;
-    same_numbers(&one[..], &other[..])
-}
-
-fn same_weights(a: Book, b: Book) -> bool {
-    let one = a.weights;
-    let other = b.weights;
-    for i in 0..Book::STOPS {
-        if one[i] != other[i] {
-            return false;
-        }
-    }
-    true
-}
-
-// Whether two books are the same in every entry, those past their counts too.
-pub(crate) fn same(a: Book, b: Book) -> bool {
-    if a.cranes != b.cranes {
-        return false;
-    }
-    if a.calls != b.calls {
-        return false;
-    }
-    if !same_starts(a, b) {
-        return false;
-    }
-    if !same_stands(a, b) {
-        return false;
-    }
-    if !same_requests(a, b) {
-        return false;
-    }
-    if !same_plan(a, b) {
-        return false;
-    }
-    same_weights(a, b)
-}
-
-// Whether a call gives this number; where it is refused, with zeros and the book as it was given.
-fn serves(book: Book, places: usize, table: Table, place: u16, number: u32) -> bool {
-    let serving = book.serve(places, table, place);
-    let verdict = serving.verdict;
-    if base::number(verdict) as u32 != number {
-        return false;
-    }
-    if number == 0 {
-        return true;
-    }
-    if serving.crane != 0 {
-        return false;
-    }
-    if serving.metres != 0 {
-        return false;
-    }
-    if serving.least != 0 {
-        return false;
-    }
-    same(book, serving.book)
-}
-
-// A weight that a row's book begins with.
-fn weight(kind: u32) -> i64 {
-    if kind == HIGH {
-        return Book::WEIGHT;
-    }
-    if kind == LOW {
-        return -Book::WEIGHT;
-    }
-    if kind == OVER {
-        return Book::WEIGHT + 1;
-    }
-    if kind == UNDER {
-        return -Book::WEIGHT - 1;
-    }
-    if kind == ONE {
-        return 3;
-    }
-    0
-}
-
-// The book that a row begins with.
-fn begun(kind: u32) -> Book {
-    let mut book = full(weight(kind));
-    if kind == ONE {
-        book.cranes = 1;
-        book.calls = 0;
-        book.plan[0] = 0;
-    }
-    book
-}
-
-// The same book with one entry changed.
-fn changed(book: Book, what: u32, at: usize, value: u32) -> Book {
+// A book with one place changed.
+fn moved(book: Book, list: u32, at: usize, place: u16) -> Book {
     let mut other = book;
-    let number = (value % 65_536) as u16;
-    if what == CRANES {
-        other.cranes = value as usize;
+    if list == START {
+        other.starts[at % Book::CRANES] = place;
     }
-    if what == CALLS {
-        other.calls = value as usize;
+    if list == STAND {
+        other.stands[at % Book::CRANES] = place;
     }
-    if Book::STOPS <= at {
-        return other;
-    }
-    if what == PLAN {
-        other.plan[at] = number;
-    }
-    if what == WEIGHT {
-        other.weights[at] = value as i64;
-    }
-    if Book::CALLS <= at {
-        return other;
-    }
-    if what == CALL {
-        other.requests[at] = number;
-    }
-    if Book::CRANES <= at {
-        return other;
-    }
-    if what == START {
-        other.starts[at] = number;
-    }
-    if what == STAND {
-        other.stands[at] = number;
+    if list == CALL {
+        other.requests[at % Book::CALLS] = place;
     }
     other
 }
 
-// The table of a row.
-fn table(kind: u32) -> Table {
-    if kind == PAIR {
-        return small::three(7, 0, 0);
+// A book with one entry changed.
+fn changed(book: Book, list: u32, at: usize, value: u16) -> Book {
+    let mut other = moved(book, list, at, value);
+    if list == PLAN {
+        other.plan[at % Book::STOPS] = value;
     }
-    let mut table = small::three(10, 26, 15);
-    if kind == OWN {
-        table[1][1] = 1;
+    if list == WEIGHT {
+        other.weights[at % Book::STOPS] = value as i64;
     }
-    table
+    other
 }
 
-// Whether the test of a book gives this number, and so do its costs.
-fn tests(book: Book, places: usize, table: Table, number: u32) -> bool {
-    let tested = book.test(places, table);
-    if base::number(tested) as u32 != number {
-        return false;
+// The start, the stand, the call and the follower at an index in one number; the index comes round in the shorter lists.
+fn stops_at(book: Book, i: usize) -> u64
+    requires { ⌜ i < mostStops ⌝ }
+{
+    let crane = i % Book::CRANES;
+    ((book.starts[crane] as u64) << 48)
+        | ((book.stands[crane] as u64) << 32)
+        | ((book.requests[i % Book::CALLS] as u64) << 16)
+        | book.plan[i] as u64
+}
+
+// The weight at an index.
+fn weight_at(book: Book, i: usize) -> i64
+    requires { ⌜ i < mostStops ⌝ }
+{
+    book.weights[i]
+}
+
+// Whether two books are the same in every entry, those past their counts too.
+fn same(a: Book, b: Book) -> bool {
+    let mut same = (a.cranes == b.cranes) & (a.calls == b.calls);
+    for i in 0..Book::STOPS {
+        same = same & (stops_at(a, i) == stops_at(b, i)) & (weight_at(a, i) == weight_at(b, i));
     }
-    let costs = book.costs(places, table);
+    same
+}
+
+// A call.
+fn serve(book: Book, places: usize, table: Table, place: u16) -> Serving {
+    Dispatch::serve(book, places, table, place)
+}
+
+// Prints of a book and a call the number that the test gives; the number of the costs, the least and the floor; the number of the call, and
+// whether it hands back zeros and the book as it was given, 1 or 0.
+fn ask(book: Book, places: usize, table: Table, place: u16) {
+    line::verdict(book.test(places, table));
+    let costs = Dispatch::costs(book, places, table);
     let told = costs.verdict;
-    base::number(told) as u32 == number
+    line::verdict(told);
+    line::number(costs.least);
+    line::number(costs.floor);
+    let serving = serve(book, places, table, place);
+    let answer = serving.verdict;
+    line::verdict(answer);
+    let zeros = (serving.crane == 0) & (serving.metres == 0) & (serving.least == 0);
+    let after = serving.book;
+    line::number((zeros & same(book, after)) as u64);
+    line::comma();
 }
 
-// Whether the book of a row gives the row's numbers.
-fn row_agrees(row: [u32; 12]) -> bool {
-    let places = row[7] as usize;
-    let first = changed(begun(row[0]), row[1], row[2] as usize, row[3]);
-    let book = changed(first, row[4], row[5] as usize, row[6]);
-    let table = table(row[8]);
-    if !tests(book, places, table, row[9]) {
-        return false;
-    }
-    serves(book, places, table, (row[10] % 64) as u16, row[11])
+// The same of a book of so many cranes and calls with one entry changed, against so many places of a table.
+fn case(
+    weight: i64,
+    cranes: usize,
+    calls: usize,
+    list: u32,
+    at: usize,
+    value: u16,
+    places: usize,
+    kind: u32,
+    place: u16,
+) {
+    let book = changed(full(weight, cranes, calls), list, at, value);
+    ask(book, places, table(kind), place);
 }
 
-// Whether a book's costs are these.
-fn costs_are(book: Book, places: usize, table: Table, least: u64, floor: u64) -> bool {
-    let costs = book.costs(places, table);
-    if costs.least != least {
-        return false;
-    }
-    costs.floor == floor
+// A book of one crane without calls, with entries past its counts, and a full one.
+pub(crate) fn counts() {
+    line::begin(19);
+    case(3, 1, 0, PLAN, 0, 0, 2, PAIR, 0);
+    case(0, 16, 256, NONE, 0, 0, 2, PAIR, 0);
+    // Counts and places, then the table.
+    line::begin(20);
+    case(0, 16, 256, NONE, 0, 0, 65, PAIR, 0);
+    case(0, 0, 256, NONE, 0, 0, 2, PAIR, 0);
+    case(0, 17, 256, NONE, 0, 0, 2, PAIR, 0);
+    case(0, 16, 257, NONE, 0, 0, 2, PAIR, 0);
+    case(0, 16, 256, START, 15, 2, 2, PAIR, 0);
+    case(0, 16, 256, CALL, 255, 2, 2, PAIR, 0);
+    case(0, 16, 256, STAND, 15, 2, 2, PAIR, 0);
+    case(0, 16, 256, NONE, 0, 0, 3, OWN, 0);
+    case(0, 16, 256, NONE, 0, 0, 3, BROKEN, 0);
 }
 
-// All books. Then the costs of a crane driven away, of a fresh book, and of the book of zeros that a refused day opens.
-pub(crate) fn all() -> Tally {
-    let mut tally = Tally::none();
-    for i in 0..ROWS {
-        tally = tally.add(row_agrees(BOOKS[i]));
-    }
-    let away = changed(changed(begun(FULL), STAND, 0, 1), WEIGHT, 0, 7);
-    let opening = Book::fresh(refusals::day(), refusals::table());
-    let refused = Book::fresh(refusals::day(), small::three(10, 26, 15));
-    tally
-        .add(costs_are(away, 2, table(PAIR), 7, 0))
-        .add(costs_are(opening.book, 3, refusals::table(), 0, 0))
-        .add(tests(refused.book, 3, refusals::table(), 6))
+// A plan that names a stand twice, one with a follower out of range, one that goes back to an earlier call. Then a crane driven away: the
+// last leg to its stand counts, and only the weights of stands tell that.
+pub(crate) fn plans() {
+    let full = full(0, 16, 256);
+    line::begin(21);
+    case(0, 16, 256, PLAN, 1, 2, 2, PAIR, 0);
+    case(0, 16, 256, PLAN, 271, 272, 2, PAIR, 0);
+    ask(
+        changed(changed(full, PLAN, 18, 21), PLAN, 20, 19),
+        2,
+        table(PAIR),
+        0,
+    );
+    line::begin(22);
+    case(0, 16, 256, STAND, 0, 1, 2, PAIR, 0);
+    ask(
+        changed(changed(full, STAND, 0, 1), WEIGHT, 0, 7),
+        2,
+        table(PAIR),
+        0,
+    );
 }
 
-// The book of case A served to its 256 calls, each accepted, and the next refused.
-pub(crate) fn fills() -> Tally {
-    let mut tally = Tally::none();
-    let opening = Book::fresh(refusals::day(), refusals::table());
-    let mut book = opening.book;
+// Weights at the ends of their range and past them; that of a call, and that of a stand, above the others.
+pub(crate) fn weights() {
+    line::begin(23);
+    case(MOST, 16, 256, NONE, 0, 0, 2, PAIR, 0);
+    case(-MOST, 16, 256, NONE, 0, 0, 2, PAIR, 0);
+    case(OVER, 16, 256, NONE, 0, 0, 2, PAIR, 0);
+    case(-OVER, 16, 256, NONE, 0, 0, 2, PAIR, 0);
+    case(0, 16, 256, WEIGHT, 271, 1, 2, PAIR, 0);
+    case(0, 16, 256, WEIGHT, 15, 1, 2, PAIR, 0);
+}
+
+// 3 before 6, 6 before 7, 7 before 4, 4 before 5, 5 before 8, 8 before 9, 9 before 10. Then 10 before 5 of the call's place, and that
+// before 7.
+pub(crate) fn order() {
+    line::begin(24);
+    case(0, 0, 256, NONE, 0, 0, 0, PAIR, 0);
+    case(0, 17, 257, NONE, 0, 0, 2, PAIR, 0);
+    case(0, 16, 257, NONE, 0, 0, 3, OWN, 0);
+    case(0, 16, 256, STAND, 0, 3, 3, OWN, 0);
+    case(0, 16, 256, STAND, 0, 3, 3, BROKEN, 0);
+    case(0, 16, 256, PLAN, 1, 2, 3, BROKEN, 0);
+    case(OVER, 16, 256, PLAN, 1, 2, 2, PAIR, 0);
+    case(OVER, 16, 256, NONE, 0, 0, 2, PAIR, 2);
+    case(0, 16, 256, NONE, 0, 0, 2, PAIR, 2);
+}
+
+// A fresh book, and the book of zeros that a refused day opens.
+pub(crate) fn fresh() {
+    let table = tables::three(10, 20, 15);
+    let day = days::day(3, 2, 3, 2, 1);
+    let opening = Book::fresh(day, table);
+    let refused = Book::fresh(day, tables::three(10, 26, 15));
+    line::begin(25);
+    let book = opening.book;
+    let zeros = refused.book;
+    ask(book, 3, table, 0);
+    ask(zeros, 3, table, 0);
+    line::begin(26);
+    ask(filled(book, table), 3, table, 0);
+}
+
+// A book of case A served to its 256 calls. Prints how many were accepted.
+fn filled(fresh: Book, table: Table) -> Book {
+    let mut book = fresh;
+    let mut accepted = 0;
     for i in 0..Book::CALLS {
-        let serving = book.serve(3, refusals::table(), (i % 3) as u16);
+        let serving = serve(book, 3, table, (i % 3) as u16);
         let verdict = serving.verdict;
-        tally = tally.add(base::number(verdict) == 0);
+        accepted = std::num::wrapping_add_u64(accepted, (base::number(verdict) == 0) as u64);
         book = serving.book;
     }
-    tally.add(serves(book, 3, refusals::table(), 0, 7))
+    line::number(accepted);
+    book
 }

@@ -1,140 +1,101 @@
-// Every small day up to a size, and days drawn at random, each served by the library and by the brute search.
-use crate::brute;
-use crate::search;
-use crate::small;
-use crate::tally::Tally;
+// Days in memory: each refusal and the order 3, 6, 7, 4, 5, 8, told alike by all that take a day; then 11, and what a buffer holds after.
+use crate::line;
+use crate::tables;
 use book::Book;
 use dayfile::Day;
+use dispatch::Dispatch;
 use road::Table;
 
-const SIZES: usize = 6;
-
-// All days of one size in each row: the numbers of places, cranes and calls; the metres of the longest leg; and how many tables, lists of
-// starts and lists of calls there are.
-const EVERY: [[u32; 7]; SIZES] = [
-    [1, 1, 6, 1, 1, 1, 1],
-    [2, 2, 6, 2, 2, 4, 64],
-    [2, 3, 4, 3, 3, 8, 16],
-    [3, 1, 3, 3, 27, 3, 27],
-    [3, 2, 3, 3, 27, 9, 27],
-    [3, 3, 2, 3, 27, 27, 9],
-];
-
-const DRAWS: usize = 7;
-
-// Days drawn at random in each row: the numbers of places, cranes and calls; the metres of the longest leg, before the shortest ways
-// are taken; and how many days.
-const RANDOM: [[u32; 5]; DRAWS] = [
-    [5, 4, 6, 2, 120],
-    [5, 4, 6, 1_000, 120],
-    [5, 4, 6, 100_000, 120],
-    [5, 2, 6, 100, 300],
-    [5, 1, 6, 1_000, 300],
-    [4, 3, 6, 3, 300],
-    [3, 4, 6, 2, 300],
-];
-
-// Whether every figure of a small day agrees. Its table need not keep the triangle rule: then the day must be refused by 8.
-fn agrees(day: Day, table: &Table) -> bool {
-    if small::metric(day.places, table) {
-        let sides = search::day(day, table);
-        return sides.agree;
-    }
-    let served = Book::serve_day(day, *table);
-    let verdict = served.verdict;
-    base::number(verdict) == 8
-}
-
-// Every day of a row with one table and one list of starts; how many lists of calls there are is told beside the row.
-fn every_call(row: [u32; 7], table: &Table, starts: brute::Position, days: usize) -> Tally {
-    let places = row[0] as usize;
-    let cranes = row[1] as usize;
-    let calls = row[2] as usize;
-    let mut tally = Tally::none();
-    for i in 0..days {
-        let day = small::day(places, cranes, calls, starts, small::counted(i, places));
-        tally = tally.add(agrees(day, table));
-    }
-    tally
-}
-
-// Every day of a row with one table; likewise of lists of starts.
-fn every_start(row: [u32; 7], table: &Table, starts: usize) -> Tally {
-    let places = row[0] as usize;
-    let mut tally = Tally::none();
-    for i in 0..starts {
-        let all = small::counted(i, places);
-        let first = [all[0], all[1], all[2], all[3]];
-        tally = tally.and(every_call(row, table, first, small::count(row[6])));
-    }
-    tally
-}
-
-// Every day of a row; likewise of tables.
-fn every(row: [u32; 7], tables: usize) -> Tally {
-    let mut tally = Tally::none();
-    for i in 0..tables {
-        let table = small::table(small::counted_legs(i, row[3]));
-        tally = tally.and(every_start(row, &table, small::count(row[5])));
-    }
-    tally
-}
-
-// Every day of every row.
-pub(crate) fn all() -> Tally {
-    let mut tally = Tally::none();
-    for i in 0..SIZES {
-        let row = EVERY[i];
-        tally = tally.and(every(row, small::count(row[4])));
-    }
-    tally
-}
-
-// Random days: those without a call at which two cranes had the same sum, and those with one.
-pub struct Drawn {
-    pub plain: Tally,
-    pub tied: Tally,
-}
-
-// One day more.
-fn counted(drawn: Drawn, tied: bool, agree: bool) -> Drawn {
-    let plain = drawn.plain;
-    let with = drawn.tied;
-    if tied {
-        return Drawn {
-            plain,
-            tied: with.add(agree),
-        };
-    }
-    Drawn {
-        plain: plain.add(agree),
-        tied: with,
+// The day of case A with other counts, another start of the second crane and another place of the last call.
+pub(crate) fn day(places: usize, cranes: usize, calls: usize, start: u16, call: u16) -> Day {
+    let mut starts = [0; Day::CRANES];
+    starts[1] = start;
+    let mut requests = [0; Day::CALLS];
+    requests[0] = 1;
+    requests[2] = call;
+    Day {
+        places,
+        cranes,
+        calls,
+        starts,
+        requests,
     }
 }
 
-// The days of a row too, so many.
-fn with_drawn(before: Drawn, row: [u32; 5], days: usize) -> Drawn {
-    let places = row[0] as usize;
-    let cranes = row[1] as usize;
-    let calls = row[2] as usize;
-    let mut all = before;
-    for i in 0..days {
-        let table = small::drawn_table(i, places, row[3], 1);
-        let sides = search::day(small::drawn_day(i, places, cranes, calls), &table);
-        all = counted(all, sides.tied, sides.agree);
+// Whether every byte from an index on is this one.
+pub(crate) fn rest_is(byte: u8, bytes: &[u8], from: usize) -> bool {
+    let mut i = from;
+    while i < bytes.len() {
+        if bytes[i] != byte {
+            return false;
+        }
+        i += 1;
     }
-    all
+    true
 }
 
-// The days of every row.
-pub(crate) fn random() -> Drawn {
-    let mut all = Drawn {
-        plain: Tally::none(),
-        tied: Tally::none(),
-    };
-    for i in 0..DRAWS {
-        let row = RANDOM[i];
-        all = with_drawn(all, row, small::count(row[4]));
+// Room for the file of case A, and a byte more.
+const ROOM: usize = 97;
+
+// Writes a day into a buffer: the number, the length, and whether the bytes past it are as before, 1 or 0.
+fn write_into(day: Day, table: Table, buffer: &mut [u8]) {
+    let written = day.write(table, buffer);
+    let verdict = written.verdict;
+    line::verdict(verdict);
+    line::number(written.length as u64);
+    line::number(rest_is(7, buffer, written.length) as u64);
+    line::comma();
+}
+
+// The same of a buffer of so many bytes.
+fn write(day: Day, table: Table, room: usize) {
+    let mut buffer = [7; ROOM];
+    if room <= ROOM {
+        write_into(day, table, &mut buffer[..room]);
     }
-    all
+}
+
+// The numbers that the test of a day gives, the opening of its book, serving it, and writing it into no room.
+fn take(places: usize, cranes: usize, calls: usize, start: u16, call: u16, second: u32) {
+    let day = day(places, cranes, calls, start, call);
+    let table = tables::three(10, second, 15);
+    let opening = Book::fresh(day, table);
+    let served = Dispatch::serve_day(day, table);
+    line::verdict(day.test(table));
+    let opened = opening.verdict;
+    line::verdict(opened);
+    let told = served.verdict;
+    line::verdict(told);
+    write(day, table, 0);
+}
+
+// Case A, and each number alone.
+pub(crate) fn each() {
+    line::begin(16);
+    take(3, 2, 3, 2, 1, 20);
+    take(65, 2, 3, 2, 1, 20);
+    take(3, 0, 3, 2, 1, 20);
+    take(3, 17, 3, 2, 1, 20);
+    take(3, 2, 257, 2, 1, 20);
+    take(3, 2, 3, 2, 1, 0);
+    take(3, 2, 3, 3, 1, 20);
+    take(3, 2, 3, 2, 3, 20);
+    take(3, 2, 3, 2, 1, 26);
+}
+
+// 3 before 6, 6 before 7, 7 before 4, 4 before 5, 5 before 8. Then 11, 8 before it, a buffer that is just long enough, and a longer one.
+pub(crate) fn order() {
+    line::begin(17);
+    take(0, 0, 3, 2, 1, 20);
+    take(3, 17, 257, 2, 1, 20);
+    take(3, 2, 257, 2, 1, 0);
+    take(3, 2, 3, 3, 1, 0);
+    take(3, 2, 3, 2, 3, 26);
+    line::begin(18);
+    let day = day(3, 2, 3, 2, 1);
+    let table = tables::three(10, 20, 15);
+    write(day, table, 95);
+    write(day, tables::three(10, 26, 15), 95);
+    write(day, table, 96);
+    write(day, table, 97);
 }

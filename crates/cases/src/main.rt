@@ -1,58 +1,79 @@
-// Runs document 01's cases on the compiled library, and small days beside a brute search over positions. Prints, for each group, how
-// many cases were tried and how many agree. Stands on all the libraries here, and on the toolchain's `io` for writing.
+// Runs document 01's cases on the compiled library and prints what each gives, below a legend of the lines. Stands on all the libraries here,
+// and on the toolchain's `io` for writing.
 mod books;
-mod brute;
 mod days;
-mod edges;
 mod files;
-mod past;
+mod line;
 mod prints;
-mod refusals;
-mod restored;
-mod search;
-mod small;
 mod tables;
-mod tally;
 
-// Tables, files, days and books, accepted and refused.
-fn tests() {
-    let tables = tables::all();
-    tables.print(b"tables");
-    let files = files::all();
-    files.print(b"files");
-    let refusals = refusals::all();
-    refusals.print(b"days in memory");
-    let books = books::all();
-    books.print(b"books");
-    let fills = books::fills();
-    fills.print(b"a book filled");
+// Road tables and day files.
+fn read() {
+    tables::rules();
+    tables::order();
+    files::metres();
+    files::kinds();
+    files::order();
+    files::stops();
+    files::cranes();
+    files::calls();
 }
 
-// Days with their figures, and their print.
-fn figures() {
-    let edges = edges::all();
-    edges.print(b"edges and wrong turns");
-    let prints = prints::all();
-    prints.print(b"prints");
+// Days and books in memory, and prints.
+fn memory() {
+    days::each();
+    days::order();
+    books::counts();
+    books::plans();
+    books::weights();
+    books::order();
+    books::fresh();
+    prints::days();
+    prints::refusals();
 }
 
-// The days that are searched.
-fn searches() {
-    let every = days::all();
-    every.print(b"every small day");
-    let random = days::random();
-    let plain = random.plain;
-    plain.print(b"random days without equal sums");
-    let tied = random.tied;
-    tied.print(b"random days with equal sums");
-    let restored = restored::all();
-    restored.print(b"restored books");
-    let past = past::all();
-    past.print(b"entries past the counts");
+// What the numbered lines are.
+fn legend() {
+    line::text(
+        b"Tables: the number of the test.
+1 the triangle rule kept and broken
+2 1000000, 1000001 and 0 metres; one place; 26 metres past two places
+3 65 and 0 places; 3 before 4; 4 before 8
+4 a self-leg and two directions before 8, and past two places
+Files: the number, the record, and whether the day that was read is written back the same.
+5 triangles and metres
+6 lengths
+7 other kinds and bytes that are not 0
+8 records out of order
+9 legs missing
+10 2 before 3 before 4
+11 places past the last
+12 no crane
+13 sixteen cranes and seventeen
+14 256 calls and 257
+15 the longest and longer
+Days in memory: the numbers of the test, of a fresh book and of the served day; of a write the number, the length and whether the rest is as before.
+16 accepted, and by each number
+17 3 before 6 before 7 before 4 before 5 before 8
+18 into 95 bytes, the same by 8, into 96 and 97
+Books: the number of the test; the number of the costs, least and floor; the number of a call, and whether it hands back zeros and the same book.
+19 one crane and no call; sixteen and 256
+20 counts, places and tables
+21 a stand named twice, a follower out of range, back to an earlier call
+22 a crane driven away, and its weight raised
+23 weights
+24 3 before 6 before 7 before 4 before 5 before 8 before 9 before 10, then 5 and 7
+25 a fresh one, and that of a refused day
+26 a book filled, calls accepted, and one more
+Prints: the text, and whether all bytes past it are 0.
+27 case A; one place and one crane; the same and a call
+28 an empty file; 13 bytes; legs missing; legs 10, 26, 15",
+    );
 }
 
 fn main() {
-    tests();
-    figures();
-    searches();
+    legend();
+    read();
+    memory();
+    line::text(b"\n");
 }

@@ -1,60 +1,61 @@
-// Road tables: the limits, each rule, and the order 3, 4, 8.
-use crate::small;
-use crate::tally::Tally;
+// Road tables: the limits, each rule, and the order 3, 4, 8. Prints the number that the test of each gives.
+use crate::line;
 use road::Road;
 use road::Table;
 
-const ROWS: usize = 13;
-
-// A table of three places in each row: the number of places that it is tested with, the legs (0,1), (0,2) and (1,2), and the number
-// that the test gives.
-const TABLES: [[u32; 5]; ROWS] = [
-    [3, 10, 25, 15, 0],
-    [3, 10, 26, 15, 8],
-    [3, 26, 10, 15, 8],
-    [3, 10, 15, 26, 8],
-    [2, 1_000_000, 0, 0, 0],
-    [2, 1_000_001, 0, 0, 4],
-    [2, 0, 0, 0, 4],
-    [1, 0, 0, 0, 0],
-    // Entries past the number of places are ignored.
-    [2, 10, 26, 15, 0],
-    // 3 alone, 3 before 4, and 4 before 8.
-    [65, 10, 25, 15, 3],
-    [0, 10, 25, 15, 3],
-    [65, 1_000_001, 0, 0, 3],
-    [3, 10, 1_000_001, 15, 4],
-];
-
-// Whether the test of a table gives the number.
-fn gives(places: usize, table: Table, number: u32) -> bool {
-    let verdict = Road::test(places, table);
-    base::number(verdict) as u32 == number
-}
-
-// Whether the table of a row gives the row's number.
-fn row_agrees(row: [u32; 5]) -> bool {
-    let places = row[0] as usize;
-    gives(places, small::three(row[1], row[2], row[3]), row[4])
-}
-
-// The rows.
-fn rows() -> Tally {
-    let mut tally = Tally::none();
-    for i in 0..ROWS {
-        tally = tally.add(row_agrees(TABLES[i]));
+// A table with other metres from one place to another, there and back.
+pub(crate) fn with(table: Table, from: usize, to: usize, there: u32, back: u32) -> Table {
+    let mut other = table;
+    if from < Road::PLACES {
+        if to < Road::PLACES {
+            other[from][to] = there;
+            other[to][from] = back;
+        }
     }
-    tally
+    other
 }
 
-// A self-leg, two directions, both before 8, and both past the number of places.
-pub(crate) fn all() -> Tally {
-    let mut own = small::three(10, 26, 15);
-    own[2][2] = 1;
-    let mut ways = small::three(10, 26, 15);
-    ways[2][1] = 16;
-    rows().add(gives(3, own, 4))
-        .add(gives(3, ways, 4))
-        .add(gives(2, own, 0))
-        .add(gives(2, ways, 0))
+// The table of three places with these legs.
+pub(crate) fn three(first: u32, second: u32, third: u32) -> Table {
+    let one = with([[0; Road::PLACES]; Road::PLACES], 0, 1, first, first);
+    with(with(one, 0, 2, second, second), 1, 2, third, third)
+}
+
+// A table of three places, tested as one of so many.
+fn test(places: usize, first: u32, second: u32, third: u32) {
+    line::verdict(Road::test(places, three(first, second, third)));
+}
+
+// The same of a table that breaks the triangle rule, with other metres from one place to another, there and back.
+fn test_with(places: usize, from: usize, to: usize, there: u32, back: u32) {
+    line::verdict(Road::test(places, with(three(10, 26, 15), from, to, there, back)));
+}
+
+// Each rule alone. Entries past the number of places are ignored.
+pub(crate) fn rules() {
+    line::begin(1);
+    test(3, 10, 25, 15);
+    test(3, 10, 26, 15);
+    test(3, 26, 10, 15);
+    test(3, 10, 15, 26);
+    line::begin(2);
+    test(2, 1_000_000, 0, 0);
+    test(2, 1_000_001, 0, 0);
+    test(2, 0, 0, 0);
+    test(1, 0, 0, 0);
+    test(2, 10, 26, 15);
+}
+
+// 3 alone, 3 before 4, and 4 before 8.
+pub(crate) fn order() {
+    line::begin(3);
+    test(65, 10, 25, 15);
+    test(0, 10, 25, 15);
+    test(65, 1_000_001, 0, 0);
+    test(3, 10, 1_000_001, 15);
+    line::begin(4);
+    test_with(3, 2, 2, 1, 1);
+    test_with(3, 1, 2, 15, 16);
+    test_with(2, 2, 2, 1, 1);
+    test_with(2, 1, 2, 15, 16);
 }

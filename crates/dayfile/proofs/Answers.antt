@@ -6,7 +6,7 @@ use mathlib.Core.Path.{_≡_, refl, sym, ap, subst, _∙_}
 use lib.ListN.{length}
 use native.Mathlib.Nat.{zero-add}
 use native.Mathlib.Omega.{arith}
-use Rattle.road.specs.Table.{metresOf, triangleRefusal}
+use Rattle.road.specs.Table.{mostPlaces, triangleRefusal}
 use Rattle.dayfile.specs.declared.codec.Record.{Record}
 use Rattle.dayfile.specs.declared.scan.State.{State}
 use Rattle.dayfile.specs.Codec.{records}
@@ -32,7 +32,7 @@ pub record File (bs : List ℕ) (all : List Record) (t : State) : Type 0 where
   pub fits : lengthRefusal (length bs) ≡ 0
   pub same : records bs ≡ all
   pub run : Run start all t
-  pub triangles : triangleRefusal (t .second) (metresOf (legTable (t .second) all)) ≡ 0
+  pub triangles : triangleRefusal (t .second) (legTable (t .second) all) ≡ 0
 
 pub file-read : (bs : List ℕ) (all : List Record) (t : State) → File bs all t → readFile bs ≡ record { number = 0; index = 0; day = dayOf all t }
 unfolding readFile tested
@@ -73,18 +73,18 @@ module _ (bs : List ℕ) where
     unfolding tested
     record-refused i n s e h = answered (refused n i) (rw (long, ← e, refuses i n (counted s) h))
 
-    module _ (s : State) (e : counted s ≡ scan 0 start (records bs)) (n : ℕ) (f : n ≡ triangleRefusal (s .second) (metresOf (legTable (s .second) (records bs)))) where
+    module _ (s : State) (e : counted s ≡ scan 0 start (records bs)) (n : ℕ) (f : n ≡ triangleRefusal (s .second) (legTable (s .second) (records bs))) where
       -- 8
       pub way-refused : (n ≡ 0 → ⊥) → refusal n 0 ≡ readFile bs
       unfolding tested
       way-refused h = answered (refused n 0) (rw (long, ← e, ← f) (refuses 0 n _ h))
 
 -- the legs of the places read are in the file; where it is refused there are none
-pub places-read : (bs : List ℕ) → (readFile bs .day .places ≤ 64) × (12 * legCount (readFile bs .day .places) ≤ length bs)
+pub places-read : (bs : List ℕ) → (readFile bs .day .places ≤ mostPlaces) × (12 * legCount (readFile bs .day .places) ≤ length bs)
 unfolding dayOf legCount
 places-read bs = either (tested bs) refl
   where
-    either : (x : Scan) → tested bs ≡ x → (readFile bs .day .places ≤ 64) × (12 * legCount (readFile bs .day .places) ≤ length bs)
+    either : (x : Scan) → tested bs ≡ x → (readFile bs .day .places ≤ mostPlaces) × (12 * legCount (readFile bs .day .places) ≤ length bs)
     either (counted s) e =
         let h : readFile bs .number ≡ 0 = ap (λ (a : Answer). a .number) (sym (answered bs (counted s) e)) in
         let f = accepted-file bs h in

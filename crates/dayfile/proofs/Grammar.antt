@@ -15,10 +15,10 @@ use native.Mathlib.Omega.{arith}
 use Rattle.base.specs.Tests.{within}
 use Rattle.base.proofs.Numbers.{unless-zero, then-zero}
 use Rattle.base.proofs.Tests.{within-most}
-use Rattle.road.specs.Table.{metresRule}
+use Rattle.road.specs.Table.{mostPlaces, mostMetres, metresRule}
 use Rattle.dayfile.specs.declared.codec.Record.{Record}
 use Rattle.dayfile.specs.declared.scan.State.{State}
-use Rattle.dayfile.specs.Day.{stop}
+use Rattle.dayfile.specs.Day.{mostCranes, mostCalls, stop}
 use Rattle.dayfile.specs.File.{answerOf}
 use Rattle.dayfile.specs.Legs.{leg, legCount, none}
 use Rattle.dayfile.specs.Scan.{Scan, counted, refuseAt, start, after, bareRefusal, formRefusal, legRefusal, stopRefusal, craneRefusal, callRefusal, recordRefusal, missingRefusal, endRefusal, scan}
@@ -30,13 +30,13 @@ passes : (s : State) (r : Record) → Accepted s r → recordRefusal s r ≡ 0
 unfolding recordRefusal formRefusal bareRefusal legRefusal stopRefusal craneRefusal callRefusal within
 passes s r (a-leg e k n m) =
     subst⁻¹ (λ (q : Record). recordRefusal s q ≡ 0) e
-    (rw (eq-eqb (s .cranes) 0 k, eq-eqb (s .first) (s .first) refl, eq-eqb (s .second) (s .second) refl, lt-ltb (s .second) 64 n) m)
+    (rw (eq-eqb (s .cranes) 0 k, eq-eqb (s .first) (s .first) refl, eq-eqb (s .second) (s .second) refl, lt-ltb (s .second) mostPlaces n) m)
 passes s r (a-crane e f m p k) =
     subst⁻¹ (λ (q : Record). recordRefusal s q ≡ 0) e
-    (rw (eq-eqb (s .calls) 0 m, eq-eqb (s .first) 0 f, lt-ltb (r .first) (s .second) p, lt-ltb (s .cranes) 16 k))
+    (rw (eq-eqb (s .calls) 0 m, eq-eqb (s .first) 0 f, lt-ltb (r .first) (s .second) p, lt-ltb (s .cranes) mostCranes k))
 passes s r (a-call e f p k m) =
     subst⁻¹ (λ (q : Record). recordRefusal s q ≡ 0) e
-    (rw (eq-eqb (s .first) 0 f, lt-ltb (r .first) (s .second) p, lt-ltb 0 (s .cranes) k, lt-ltb (s .calls) 256 m))
+    (rw (eq-eqb (s .first) 0 f, lt-ltb (r .first) (s .second) p, lt-ltb 0 (s .cranes) k, lt-ltb (s .calls) mostCalls m))
 
 -- the states of a scan that accepts some records, from the first to the last
 pub data Run : State → List Record → State → Type 0 where
@@ -73,12 +73,12 @@ run-progress (more {s} {t} {r} {rs} a run) i h =
     subst (Progress t) (omega arith) (run-progress run (i + 1) (progress-after s r i a h))
 
 -- an accepted record can be written
-stop-fits : (kind p : ℕ) → p < 64 → Fits (stop kind p)
+stop-fits : (kind p : ℕ) → p < mostPlaces → Fits (stop kind p)
 stop-fits kind p h = record { first = omega arith; second = lit< tt; gap = lit< tt; metres = lit< tt }
 
 fits : (s : State) (r : Record) (i : ℕ) → Accepted s r → Progress s i → Fits r
 fits s r i (a-leg e k n m) h =
-    let most : r .metres ≤ 1000000 = within-most 1 1000000 (r .metres) (unless-zero (metresRule (r .metres)) 3 m) in
+    let most : r .metres ≤ mostMetres = within-most 1 mostMetres (r .metres) (unless-zero (metresRule (r .metres)) 3 m) in
     subst⁻¹ Fits e (record { first = omega arith; second = omega arith; gap = lit< tt; metres = omega arith })
 fits s r i (a-crane e f m p k) h = subst⁻¹ Fits e (stop-fits 2 (r .first) (omega arith))
 fits s r i (a-call e f p k m) h = subst⁻¹ Fits e (stop-fits 3 (r .first) (omega arith))

@@ -5,10 +5,11 @@ use mathlib.Core.List.{List, _++_}
 use mathlib.Core.Path.{_≡_, refl, ap₂}
 use native.Mathlib.Nat.{le-of-lt, le-refl}
 use Rattle.base.proofs.Lists.{upTo-same}
-use Rattle.road.proofs.Table.{same-legs, same-triangles}
+use Rattle.road.specs.Table.{Table, metresOf}
+use Rattle.road.proofs.Surveyed.{same-legs, same-triangles}
 use Rattle.dayfile.specs.declared.Day.{Day}
 use Rattle.dayfile.specs.declared.codec.Record.{Record}
-use Rattle.dayfile.specs.Day.{SameDay, dayRefusal, dayRecords}
+use Rattle.dayfile.specs.Day.{SameDay, placedRefusal, dayRefusal, dayRecords}
 use Rattle.dayfile.specs.File.{writeFile}
 use Rattle.dayfile.specs.Legs.{legRecords}
 
@@ -20,16 +21,19 @@ same-leg-records d e (suc n) same =
     ap₂ (λ (x y : List Record). x ++ y) (same-leg-records d e n (λ u v p q. same u v (below u p) (below v q)))
     (upTo-same n _ _ (λ u p. rw (same u n (below u p) (le-refl (suc n)))))
 
-module _ (a b : Day) (d e : ℕ → ℕ → ℕ) (days : SameDay a b) (tables : (u v : ℕ) → u < b .places → v < b .places → d u v ≡ e u v) where
-  pub same-refusal : dayRefusal a d ≡ dayRefusal b e
+module _ (a b : Day) (t s : Table) (days : SameDay a b) (tables : (u v : ℕ) → u < b .places → v < b .places → metresOf t u v ≡ metresOf s u v) where
+  pub same-placed : placedRefusal a t ≡ placedRefusal b s
+  unfolding placedRefusal
+  same-placed = rw (days .starts, days .requests, days .places, days .cranes, days .calls, same-legs (b .places) t s tables)
+
+  pub same-refusal : dayRefusal a t ≡ dayRefusal b s
   unfolding dayRefusal
-  same-refusal =
-      rw (days .starts, days .requests, days .places, days .cranes, days .calls, same-legs (b .places) d e tables, same-triangles (b .places) d e tables)
+  same-refusal = rw (same-placed, days .places, same-triangles (b .places) t s tables)
 
-  same-records : dayRecords a d ≡ dayRecords b e
+  same-records : dayRecords a (metresOf t) ≡ dayRecords b (metresOf s)
   unfolding dayRecords
-  same-records = rw (days .starts, days .requests, days .places, same-leg-records d e (b .places) tables)
+  same-records = rw (days .starts, days .requests, days .places, same-leg-records (metresOf t) (metresOf s) (b .places) tables)
 
-  pub same-output : (out : List ℕ) → writeFile a d out ≡ writeFile b e out
+  pub same-output : (out : List ℕ) → writeFile a t out ≡ writeFile b s out
   unfolding writeFile
   same-output out = rw (same-refusal, same-records)

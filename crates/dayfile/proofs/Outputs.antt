@@ -8,6 +8,7 @@ use native.Mathlib.Omega.{arith}
 use Rattle.base.specs.Lists.{splice}
 use Rattle.base.proofs.Numbers.{zeros-told, refused-first}
 use borrow.Author.Tests.{le-leb, lt-leb}
+use Rattle.road.specs.Table.{Table, metresOf}
 use Rattle.dayfile.specs.declared.Day.{Day}
 use Rattle.dayfile.specs.declared.codec.Record.{Record}
 use Rattle.dayfile.specs.Codec.{encodeAll}
@@ -18,16 +19,16 @@ use Rattle.dayfile.proofs.codec.Laws.{length-encodeAll, put-on}
 use Rattle.dayfile.proofs.legs.Laws.{length-legRecords}
 
 -- a refusal of the tests in memory
-pub day-refused : (day : Day) (d : ℕ → ℕ → ℕ) (out : List ℕ) (n : ℕ) → n ≡ dayRefusal day d → (n ≡ 0 → ⊥)
-    → record { number = n; length = 0; buffer = out } ≡ writeFile day d out
+pub day-refused : (day : Day) (t : Table) (out : List ℕ) (n : ℕ) → n ≡ dayRefusal day t → (n ≡ 0 → ⊥)
+    → record { number = n; length = 0; buffer = out } ≡ writeFile day t out
 unfolding writeFile
-day-refused day d out n e h =
-    let first : n ≡ writeRefusal day d out = rw (← e) (refused-first n _ h) in
+day-refused day t out n e h =
+    let first : n ≡ writeRefusal day t out = rw (← e) (refused-first n _ h) in
     rw (← first) (zeros-told n _ (λ m. record { number = m; length = 0; buffer = out }) h)
 
-module _ (day : Day) (d : ℕ → ℕ → ℕ) (k : length (dayStarts day) ≡ day .cranes) (m : length (dayRequests day) ≡ day .calls) where
+module _ (day : Day) (t : Table) (k : length (dayStarts day) ≡ day .cranes) (m : length (dayRequests day) ≡ day .calls) where
   abbrev legs : List Record
-  legs = legRecords d (day .places)
+  legs = legRecords (metresOf t) (day .places)
 
   abbrev cranes : List Record
   cranes = map (stop 2) (dayStarts day)
@@ -35,23 +36,23 @@ module _ (day : Day) (d : ℕ → ℕ → ℕ) (k : length (dayStarts day) ≡ d
   abbrev calls : List Record
   calls = map (stop 3) (dayRequests day)
 
-  count : length (dayRecords day d) ≡ legCount (day .places) + day .cranes + day .calls
+  count : length (dayRecords day (metresOf t)) ≡ legCount (day .places) + day .cranes + day .calls
   unfolding dayRecords
   count =
       simp (length-append, length-legRecords, length-map, k, m) (omega arith)
 
-  pub length-day : length (dayBytes day d) ≡ 12 * (legCount (day .places) + day .cranes + day .calls)
-  length-day = length-encodeAll (dayRecords day d) ∙ ap (λ (n : ℕ). 12 * n) count
+  pub length-day : length (dayBytes day (metresOf t)) ≡ 12 * (legCount (day .places) + day .cranes + day .calls)
+  length-day = length-encodeAll (dayRecords day (metresOf t)) ∙ ap (λ (n : ℕ). 12 * n) count
 
   -- the legs, the cranes behind them, and the calls behind those
   pub all-put : (old a b e : List ℕ) → 12 * (legCount (day .places) + day .cranes + day .calls) ≤ length old
       → a ≡ splice 0 (encodeAll legs) old
       → b ≡ splice (12 * legCount (day .places)) (encodeAll cranes) a
       → e ≡ splice (12 * (legCount (day .places) + day .cranes)) (encodeAll calls) b
-      → e ≡ splice 0 (dayBytes day d) old
+      → e ≡ splice 0 (dayBytes day (metresOf t)) old
   unfolding dayRecords
   all-put old a b e fits p q r =
-      let n : length legs ≡ legCount (day .places) = length-legRecords d (day .places) in
+      let n : length legs ≡ legCount (day .places) = length-legRecords (metresOf t) (day .places) in
       let c : length cranes ≡ day .cranes = length-map (dayStarts day) (stop 2) ∙ k in
       let l : length calls ≡ day .calls = length-map (dayRequests day) (stop 3) ∙ m in
       let two : length (legs ++ cranes) ≡ legCount (day .places) + day .cranes = length-append legs cranes ∙ (omega arith) in
@@ -62,14 +63,14 @@ module _ (day : Day) (d : ℕ → ℕ → ℕ) (k : length (dayStarts day) ≡ d
       r ∙ rw (before, second) (put-on 0 (legs ++ cranes) old calls (omega arith))
       ∙ ap (λ (rs : List Record). splice 0 (encodeAll rs) old) (append-assoc legs cranes calls)
 
-  module _ (out : List ℕ) (e : dayRefusal day d ≡ 0) where
+  module _ (out : List ℕ) (e : dayRefusal day t ≡ 0) where
     -- 11
-    pub too-short : length out < 12 * (legCount (day .places) + day .cranes + day .calls) → record { number = 11; length = 0; buffer = out } ≡ writeFile day d out
+    pub too-short : length out < 12 * (legCount (day .places) + day .cranes + day .calls) → record { number = 11; length = 0; buffer = out } ≡ writeFile day t out
     unfolding writeFile
-    too-short h = rw (e, lt-leb (length (dayBytes day d)) (length out) (omega (arith, length-day)))
+    too-short h = rw (e, lt-leb (length (dayBytes day (metresOf t))) (length out) (omega (arith, length-day)))
 
-    pub day-written : (n : ℕ) (now : List ℕ) → n ≡ 12 * (legCount (day .places) + day .cranes + day .calls) → n ≤ length out → now ≡ splice 0 (dayBytes day d) out
-        → record { number = 0; length = n; buffer = now } ≡ writeFile day d out
+    pub day-written : (n : ℕ) (now : List ℕ) → n ≡ 12 * (legCount (day .places) + day .cranes + day .calls) → n ≤ length out → now ≡ splice 0 (dayBytes day (metresOf t)) out
+        → record { number = 0; length = n; buffer = now } ≡ writeFile day t out
     unfolding writeFile
     day-written n now q h w =
-        rw (e, le-leb (length (dayBytes day d)) (length out) (omega (arith, length-day)), q, w, length-day)
+        rw (e, le-leb (length (dayBytes day (metresOf t))) (length out) (omega (arith, length-day)), q, w, length-day)

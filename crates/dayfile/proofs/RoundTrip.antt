@@ -12,22 +12,23 @@ use native.Mathlib.Omega.{arith}
 use Rattle.base.specs.Lists.{upTo, splice}
 use Rattle.base.specs.Metric.{Metric}
 use Rattle.base.proofs.Lists.{upTo-same, take-upTo, take-padded, length-padded}
-use Rattle.base.proofs.Numbers.{unless-zero, then-zero, first-of, accepted-values}
+use Rattle.base.proofs.Numbers.{then-zero, first-of, accepted-values}
 use Rattle.base.proofs.Tests.{by-order}
-use Rattle.road.specs.Table.{metresOf, triangleRule}
-use Rattle.road.proofs.Table.{legs-hold, tested-metric, same-triangles}
+use Rattle.road.specs.Table.{Table, metresOf}
+use Rattle.road.proofs.Table.{legs-hold}
+use Rattle.road.proofs.Surveyed.{triangles-kept, surveyed-metric, same-triangles}
 use Rattle.dayfile.specs.declared.Day.{Day}
 use Rattle.dayfile.specs.declared.codec.Record.{Record}
 use Rattle.dayfile.specs.declared.scan.State.{State}
 use Rattle.dayfile.specs.Codec.{records, encodeAll}
-use Rattle.dayfile.specs.Day.{dayStarts, dayRequests, DayArrays, SameDay, dayRefusal, dayRecords}
+use Rattle.dayfile.specs.Day.{mostCranes, mostCalls, dayStarts, dayRequests, DayArrays, SameDay, dayRefusal, dayRecords}
 use Rattle.dayfile.specs.File.{stopFrom, dayOf, readFile, readTable, Output, bytesWritten, dayBytes, writeRefusal, writeFile}
 use Rattle.dayfile.specs.Legs.{legCount, leg, legTable, legMetres}
 use Rattle.dayfile.specs.Scan.{start, lengthRefusal}
 use Rattle.dayfile.proofs.Answers.{File, file-read, accepted-file}
 use Rattle.dayfile.proofs.Digits.{records-back, bytes-back}
 use Rattle.dayfile.proofs.Indices.{laid, Laid, laid-at, laid-out}
-use Rattle.dayfile.proofs.Limits.{Tested, stops-hold, day-tested, day-accepted, day-laid}
+use Rattle.dayfile.proofs.Limits.{Tested, stops-hold, enough-starts, enough-requests, day-tested, day-accepted, day-laid}
 use Rattle.dayfile.proofs.Grammar.{Run, Read, run-ended, run-progress, run-fits, all-read}
 use Rattle.dayfile.proofs.Runs.{state, run-day}
 use Rattle.dayfile.proofs.codec.Laws.{length-encodeAll}
@@ -39,8 +40,11 @@ module _ (bs : List ℕ) (all : List Record) (t : State) (file : File bs all t) 
   abbrev n : ℕ
   n = t .second
 
+  abbrev made : Table
+  made = legTable n all
+
   abbrev d : ℕ → ℕ → ℕ
-  d = metresOf (legTable n all)
+  d = metresOf made
 
   abbrev a : ℕ → ℕ
   a = stopFrom all (legCount n)
@@ -50,11 +54,11 @@ module _ (bs : List ℕ) (all : List Record) (t : State) (file : File bs all t) 
 
   starts-read : dayStarts (dayOf all t) ≡ upTo (t .cranes) a
   unfolding dayOf
-  starts-read = take-padded 16 (t .cranes) a 0
+  starts-read = take-padded mostCranes (t .cranes) a 0
 
   requests-read : dayRequests (dayOf all t) ≡ upTo (t .calls) b
   unfolding dayOf
-  requests-read = take-padded 256 (t .calls) b 0
+  requests-read = take-padded mostCalls (t .calls) b 0
 
   metres-read : (u v : ℕ) → u < v → v < n → d u v ≡ legMetres all u v
   metres-read u v p q = table-at all u v n (omega arith) q ∙ between-up all u v p
@@ -65,18 +69,20 @@ module _ (bs : List ℕ) (all : List Record) (t : State) (file : File bs all t) 
   read : Read all t
   read = all-read all (file .run)
 
-  day-read : Tested (dayOf all t) d
+  day-read : Tested (dayOf all t) made
   unfolding dayOf
   day-read =
       let ended = run-ended (file .run) in
       record {
         counts = record { place = omega (arith, kept .ordered); places = kept .places; crane = ended .1; cranes = kept .cranes; calls = kept .calls };
-        legs = legs-hold n d (λ u p. table-at all u u n p p ∙ between-self all u u refl)
-            (λ u v p q. table-at all u v n p q ∙ between-both all u v ∙ sym (table-at all v u n q p))
-            (λ u v p q. rw (metres-read u v p q) (read .legs v q u p .1));
+        surveyed = record {
+          legs = legs-hold n d (λ u p. table-at all u u n p p ∙ between-self all u u refl)
+              (λ u v p q. table-at all u v n p q ∙ between-both all u v ∙ sym (table-at all v u n q p))
+              (λ u v p q. rw (metres-read u v p q) (read .legs v q u p .1));
+          triangles = triangles-kept n made (file .triangles);
+        };
         starts = rw starts-read (stops-hold n (t .cranes) a (λ j p. read .cranes j p .1));
         requests = rw requests-read (stops-hold n (t .calls) b (λ j p. read .calls j p .1));
-        triangles = unless-zero (triangleRule n d) 7 (file .triangles);
       }
 
   records-read : dayRecords (dayOf all t) d ≡ all
@@ -91,7 +97,7 @@ module _ (bs : List ℕ) (all : List Record) (t : State) (file : File bs all t) 
       }))
 
 -- what is read passes the tests in memory
-pub file-accepted : (bs : List ℕ) → readFile bs .number ≡ 0 → dayRefusal (readFile bs .day) (metresOf (readTable bs)) ≡ 0
+pub file-accepted : (bs : List ℕ) → readFile bs .number ≡ 0 → dayRefusal (readFile bs .day) (readTable bs) ≡ 0
 unfolding dayOf
 file-accepted bs h =
     let t = accepted-file bs h in
@@ -104,11 +110,11 @@ read-arrays bs h =
     let t = accepted-file bs h in
     let counts = day-read bs (records bs) (t .0) (t .1) .counts in
     rw (file-read bs (records bs) (t .0) (t .1))
-    (record { starts = length-padded 16 _ _ 0 (counts .cranes); requests = length-padded 256 _ _ 0 (counts .calls) })
+    (record { starts = length-padded mostCranes _ _ 0 (counts .cranes); requests = length-padded mostCalls _ _ 0 (counts .calls) })
 
 -- file → day → file: in a buffer that is long enough the same bytes are written
 pub file-round-trip : (bs out : List ℕ) → ((i : ℕ) → getD bs i 0 < 256) → readFile bs .number ≡ 0 → length bs ≤ length out
-    → writeFile (readFile bs .day) (metresOf (readTable bs)) out ≡ record { number = 0; length = length bs; buffer = splice 0 bs out }
+    → writeFile (readFile bs .day) (readTable bs) out ≡ record { number = 0; length = length bs; buffer = splice 0 bs out }
 unfolding writeFile lengthRefusal dayOf
 file-round-trip bs out bytes h le =
     let all : List Record = records bs in
@@ -119,10 +125,10 @@ file-round-trip bs out bytes h le =
     rw (file-accepted bs h, file-read bs all (t .0) file, back, le-leb (length bs) (length out) le)
 
 -- what is read of a day that was written
-pub record Back (day : Day) (d : ℕ → ℕ → ℕ) (bs : List ℕ) : Type 0 where
+pub record Back (day : Day) (t : Table) (bs : List ℕ) : Type 0 where
   pub number : readFile bs .number ≡ 0
   pub same : SameDay (readFile bs .day) day
-  pub metres : (u v : ℕ) → u < day .places → v < day .places → metresOf (readTable bs) u v ≡ d u v
+  pub metres : (u v : ℕ) → u < day .places → v < day .places → metresOf (readTable bs) u v ≡ metresOf t u v
 
 length-accepted : (n : ℕ) → n ≤ 2288 → lengthRefusal (12 * n) ≡ 0
 unfolding lengthRefusal
@@ -138,7 +144,10 @@ table-back all d n a k b m h metric u v p q =
     (λ (e : u ≡ v). between-self all u v e ∙ sym (metric .self u p) ∙ ap (d u) e)
     (λ (l : v < u). between-down all u v l ∙ ap (λ (r : Record). r .metres) (h .legs v u l p) ∙ metric .both-ways v u q p)
 
-module _ (day : Day) (d : ℕ → ℕ → ℕ) (tests : Tested day d) (arrays : DayArrays day) where
+module _ (day : Day) (t : Table) (tests : Tested day t) (arrays : DayArrays day) where
+  abbrev given : ℕ → ℕ → ℕ
+  given = metresOf t
+
   abbrev from : ℕ → ℕ
   from j = getD (day .starts) j 0
 
@@ -146,32 +155,32 @@ module _ (day : Day) (d : ℕ → ℕ → ℕ) (tests : Tested day d) (arrays : 
   to j = getD (day .requests) j 0
 
   starts-written : dayStarts day ≡ upTo (day .cranes) from
-  starts-written = take-upTo (day .cranes) (day .starts) 0 (omega (arith, arrays .starts))
+  starts-written = take-upTo (day .cranes) (day .starts) 0 (enough-starts day arrays (tests .counts .cranes))
 
   requests-written : dayRequests day ≡ upTo (day .calls) to
-  requests-written = take-upTo (day .calls) (day .requests) 0 (omega (arith, arrays .requests))
+  requests-written = take-upTo (day .calls) (day .requests) 0 (enough-requests day arrays (tests .counts .calls))
 
   abbrev rs : List Record
-  rs = laid d (day .places) from (day .cranes) to (day .calls)
+  rs = laid given (day .places) from (day .cranes) to (day .calls)
 
   abbrev end : State
   end = state 0 (day .places) (day .cranes) (day .calls)
 
-  at : Laid rs d (day .places) from (day .cranes) to (day .calls)
-  at = laid-at d (day .places) from (day .cranes) to (day .calls)
+  at : Laid rs given (day .places) from (day .cranes) to (day .calls)
+  at = laid-at given (day .places) from (day .cranes) to (day .calls)
 
-  table : (u v : ℕ) → u < day .places → v < day .places → metresOf (legTable (day .places) rs) u v ≡ d u v
-  table = table-back rs d (day .places) from (day .cranes) to (day .calls) at (tested-metric (day .places) d (tests .legs) (tests .triangles))
+  table : (u v : ℕ) → u < day .places → v < day .places → metresOf (legTable (day .places) rs) u v ≡ given u v
+  table = table-back rs given (day .places) from (day .cranes) to (day .calls) at (surveyed-metric (tests .surveyed))
 
   written : File (encodeAll rs) rs end
   written =
-      let run : Run start rs end = run-day day d from to starts-written requests-written tests in
+      let run : Run start rs end = run-day day t from to starts-written requests-written tests in
       let count : length rs ≤ 2288 = omega (arith, run-progress run 0 progress-start .index, leg-count-most (day .places) (tests .counts .places)) in
       record {
         fits = rw (length-encodeAll rs) (length-accepted (length rs) count);
         same = records-back rs (run-fits run 0 progress-start);
         run = run;
-        triangles = rw (same-triangles (day .places) _ d table, tests .triangles);
+        triangles = rw (same-triangles (day .places) _ t table, tests .surveyed .triangles);
       }
 
   same-day : SameDay (dayOf rs end) day
@@ -180,23 +189,23 @@ module _ (day : Day) (d : ℕ → ℕ → ℕ) (tests : Tested day d) (arrays : 
     places = refl;
     cranes = refl;
     calls = refl;
-    starts = take-padded 16 (day .cranes) _ 0 ∙ upTo-same (day .cranes) _ from (λ j p. ap (λ (r : Record). r .first) (at .cranes j p)) ∙ sym starts-written;
-    requests = take-padded 256 (day .calls) _ 0 ∙ upTo-same (day .calls) _ to (λ j p. ap (λ (r : Record). r .first) (at .calls j p)) ∙ sym requests-written;
+    starts = take-padded mostCranes (day .cranes) _ 0 ∙ upTo-same (day .cranes) _ from (λ j p. ap (λ (r : Record). r .first) (at .cranes j p)) ∙ sym starts-written;
+    requests = take-padded mostCalls (day .calls) _ 0 ∙ upTo-same (day .calls) _ to (λ j p. ap (λ (r : Record). r .first) (at .calls j p)) ∙ sym requests-written;
   }
 
-  back : Back day d (dayBytes day d)
+  back : Back day t (dayBytes day given)
   unfolding dayOf
   back =
       let bs : List ℕ = encodeAll rs in
       let e : readFile bs ≡ record { number = 0; index = 0; day = dayOf rs end } = file-read bs rs end written in
-      rw (day-laid day d from to starts-written requests-written)
+      rw (day-laid day given from to starts-written requests-written)
       (record { number = rw e; same = rw e same-day; metres = λ u v p q. rw (e, written .same) (table u v p q) })
 
 -- day → file → day: where a day is written, what is read of the bytes written is the same day, with the same table
-pub day-round-trip : (day : Day) (d : ℕ → ℕ → ℕ) (out : List ℕ) → DayArrays day → writeFile day d out .number ≡ 0
-    → Back day d (bytesWritten (writeFile day d out))
+pub day-round-trip : (day : Day) (t : Table) (out : List ℕ) → DayArrays day → writeFile day t out .number ≡ 0
+    → Back day t (bytesWritten (writeFile day t out))
 unfolding writeFile splice
-day-round-trip day d out arrays h =
-    let none : writeRefusal day d out ≡ 0 = accepted-values {A = Output} _ _ (λ n. record { number = n; length = 0; buffer = out }) (λ o. o .number) (λ n. refl) h in
-    let accepted : dayRefusal day d ≡ 0 = then-zero _ _ none .0 in
-    rw (none, take-at (dayBytes day d) _ _ refl) (back day d (day-tested day d accepted) arrays)
+day-round-trip day t out arrays h =
+    let none : writeRefusal day t out ≡ 0 = accepted-values {A = Output} _ _ (λ n. record { number = n; length = 0; buffer = out }) (λ o. o .number) (λ n. refl) h in
+    let accepted : dayRefusal day t ≡ 0 = then-zero _ _ none .0 in
+    rw (none, take-at (dayBytes day (metresOf t)) _ _ refl) (back day t (day-tested day t accepted) arrays)

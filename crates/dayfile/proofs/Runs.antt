@@ -11,7 +11,7 @@ use native.Mathlib.Numerals.{add-one}
 use native.Mathlib.Omega.{arith}
 use Rattle.base.specs.Lists.{upTo}
 use Rattle.base.proofs.Lists.{upTo-more}
-use Rattle.road.specs.Table.{metresRule}
+use Rattle.road.specs.Table.{Table, mostPlaces, metresOf, metresRule}
 use Rattle.road.proofs.Table.{leg-metres}
 use Rattle.dayfile.specs.declared.Day.{Day}
 use Rattle.dayfile.specs.declared.codec.Record.{Record}
@@ -43,7 +43,7 @@ led-by (suc n) f states h run =
     led (h 0 (suc-le-suc zero-le))
     (led-by n (λ j. f (suc j)) (λ j. states (suc j)) (λ j p. let next = h (suc j) (suc-le-suc p) in (next .0, next .1 ∙ ap states (omega arith))) run)
 
-module _ (u v x : ℕ) (below : v < 64) (rule : metresRule x ≡ true) where
+module _ (u v x : ℕ) (below : v < mostPlaces) (rule : metresRule x ≡ true) where
   leg-in-row : u + 1 < v → Leads (state u v 0 0) (leg u v x) (state (u + 1) v 0 0)
   unfolding after afterLeg
   leg-in-row p = (a-leg refl refl below (rw rule), rw (ne-eqb (u + 1) v (λ e. omega arith)))
@@ -53,7 +53,7 @@ module _ (u v x : ℕ) (below : v < 64) (rule : metresRule x ≡ true) where
   leg-of-row p = (a-leg refl refl below (rw rule), rw (eq-eqb (u + 1) v p))
 
 module _ (d : ℕ → ℕ → ℕ) {z : State} {rs : List Record} where
-  run-row : (v w : ℕ) → w + 1 ≡ v → v < 64 → ((u : ℕ) → u < v → metresRule (d u v) ≡ true) → Run (state 0 (v + 1) 0 0) rs z
+  run-row : (v w : ℕ) → w + 1 ≡ v → v < mostPlaces → ((u : ℕ) → u < v → metresRule (d u v) ≡ true) → Run (state 0 (v + 1) 0 0) rs z
       → Run (state 0 v 0 0) (upTo v (λ u. leg u v (d u v)) ++ rs) z
   run-row v w e below rule run =
       let row : ℕ → Record = λ u. leg u v (d u v) in
@@ -63,7 +63,7 @@ module _ (d : ℕ → ℕ → ℕ) {z : State} {rs : List Record} where
       (led (leg-of-row w v (d w v) below (rule w (omega arith)) e) run)))
 
 module _ (d : ℕ → ℕ → ℕ) {z : State} where
-  run-legs : (n : ℕ) → 1 ≤ n → n ≤ 64 → ((u v : ℕ) → u < v → v < n → metresRule (d u v) ≡ true) → {rs : List Record}
+  run-legs : (n : ℕ) → 1 ≤ n → n ≤ mostPlaces → ((u v : ℕ) → u < v → v < n → metresRule (d u v) ≡ true) → {rs : List Record}
       → Run (state 0 n 0 0) rs z → Run start (legRecords d n ++ rs) z
   unfolding legRecords upTo
   run-legs zero one le rule run = absurd (not-suc-le-zero one)
@@ -74,13 +74,13 @@ module _ (d : ℕ → ℕ → ℕ) {z : State} where
       (run-legs (suc n) (suc-le-suc zero-le) (le-of-lt le) (λ u v p q. rule u v p (le-of-lt (suc-le-suc q)))
       (run-row d (suc n) n (add-one n) le (λ u p. rule u (suc n) p (le-refl (suc (suc n)))) (rw add-one run)))
 
-module _ (day : Day) (d : ℕ → ℕ → ℕ) (a b : ℕ → ℕ) (starts : dayStarts day ≡ upTo (day .cranes) a) (requests : dayRequests day ≡ upTo (day .calls) b) where
-  pub run-day : Tested day d → Run start (laid d (day .places) a (day .cranes) b (day .calls)) (state 0 (day .places) (day .cranes) (day .calls))
+module _ (day : Day) (t : Table) (a b : ℕ → ℕ) (starts : dayStarts day ≡ upTo (day .cranes) a) (requests : dayRequests day ≡ upTo (day .calls) b) where
+  pub run-day : Tested day t → Run start (laid (metresOf t) (day .places) a (day .cranes) b (day .calls)) (state 0 (day .places) (day .cranes) (day .calls))
   unfolding after
   run-day h =
       let from = stops-at (day .places) (day .cranes) a (rw starts at (h .starts)) in
       let to = stops-at (day .places) (day .calls) b (rw requests at (h .requests)) in
-      run-legs d (day .places) (h .counts .place) (h .counts .places) (leg-metres (day .places) d (h .legs))
+      run-legs (metresOf t) (day .places) (h .counts .place) (h .counts .places) (leg-metres (day .places) (metresOf t) (h .surveyed .legs))
       (led-by (day .cranes) (λ j. stop 2 (a j)) (λ j. state 0 (day .places) j 0) (λ j p. (a-crane refl refl refl (from j p) (omega arith), refl))
       (rw (← append-nil (upTo (day .calls) (λ j. stop 3 (b j))))
       (led-by (day .calls) (λ j. stop 3 (b j)) (λ j. state 0 (day .places) (day .cranes) j) (λ j p. (a-call refl refl (to j p) (h .counts .crane) (omega arith), refl))

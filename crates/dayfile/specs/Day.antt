@@ -7,18 +7,26 @@ use lib.Dec.{ltb, leb}
 use lib.ListN.{length, getD, take}
 use Rattle.base.specs.Numbers.{unless, _then_}
 use Rattle.base.specs.Tests.{within, allBelow}
-use Rattle.road.specs.Table.{placesRefusal, legsRefusal, triangleRefusal}
+use Rattle.road.specs.Table.{Table, placesRefusal, legsRefusal, triangleRefusal}
 use Rattle.dayfile.specs.declared.Day.{Day}
 use Rattle.dayfile.specs.declared.codec.Record.{Record}
 use Rattle.dayfile.specs.Legs.{legRecords}
 
+-- the most cranes: "1 to 16 cranes"
+abbrev pub mostCranes : ℕ
+mostCranes = 16
+
+-- the most calls: "0 to 256 calls"
+abbrev pub mostCalls : ℕ
+mostCalls = 256
+
 -- "1 to 16 cranes"
 abbrev pub cranesRule : ℕ → Bool
-cranesRule k = within 1 16 k
+cranesRule k = within 1 mostCranes k
 
 -- "0 to 256 calls"
 abbrev pub callsRule : ℕ → Bool
-callsRule m = leb m 256
+callsRule m = leb m mostCalls
 
 -- a place of the table: "below the number of places"
 abbrev pub stopsRule : ℕ → List ℕ → Bool
@@ -41,8 +49,8 @@ dayRequests day = take (day .calls) (day .requests)
 
 -- the lengths that a day's arrays have by their types: a definition sees an array as a list
 pub record DayArrays (day : Day) : Type 0 where
-  pub starts : length (day .starts) ≡ 16
-  pub requests : length (day .requests) ≡ 256
+  pub starts : length (day .starts) ≡ mostCranes
+  pub requests : length (day .requests) ≡ mostCalls
 
 -- "Two days are the same if their counts and the entries within them are."
 pub record SameDay (a b : Day) : Type 0 where
@@ -52,12 +60,15 @@ pub record SameDay (a b : Day) : Type 0 where
   pub starts : dayStarts a ≡ dayStarts b
   pub requests : dayRequests a ≡ dayRequests b
 
+-- what a day and a book are tested for first: "In memory: 3, 6, 7, 4, 5 (starts, calls ..)"
+unfoldable pub placedRefusal : Day → Table → ℕ
+placedRefusal day t =
+    countsRefusal (day .places) (day .cranes) (day .calls) then legsRefusal (day .places) t then
+    stopsRefusal (day .places) (dayStarts day) then stopsRefusal (day .places) (dayRequests day)
+
 -- "In memory: 3, 6, 7, 4, 5 (starts, calls ..), 8"
-unfoldable pub dayRefusal : Day → (ℕ → ℕ → ℕ) → ℕ
-dayRefusal day d =
-    countsRefusal (day .places) (day .cranes) (day .calls) then legsRefusal (day .places) d then
-    stopsRefusal (day .places) (dayStarts day) then stopsRefusal (day .places) (dayRequests day) then
-    triangleRefusal (day .places) d
+unfoldable pub dayRefusal : Day → Table → ℕ
+dayRefusal day t = placedRefusal day t then triangleRefusal (day .places) t
 
 -- the record of a crane or a call
 abbrev pub stop : ℕ → ℕ → Record

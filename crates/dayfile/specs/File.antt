@@ -1,11 +1,11 @@
 -- What reading and writing a day file give, for all bytes, days and buffers.
-use Prim.Native.Nat.{ℕ, _+_}
+use Prim.Native.Nat.{ℕ, _+_, _*_, _≤_}
 use mathlib.Core.List.{List}
 use lib.Dec.{leb}
 use lib.ListN.{length, getD, take, replicate}
 use Rattle.base.specs.Lists.{padded, splice}
 use Rattle.base.specs.Numbers.{numberOf, unless, _then_, unlessRefused}
-use Rattle.road.specs.Table.{metresOf, triangleRefusal}
+use Rattle.road.specs.Table.{Table, mostPlaces, metresOf, triangleRefusal}
 use Rattle.dayfile.specs.declared.Day.{Day}
 use Rattle.dayfile.specs.declared.Reading.{Reading}
 use Rattle.dayfile.specs.declared.Written.{Written}
@@ -14,7 +14,7 @@ use Rattle.dayfile.specs.declared.scan.State.{State}
 use Rattle.dayfile.specs.Codec.{records, encodeAll}
 use Rattle.dayfile.specs.Scan.{Scan, refused, counted, refuseAt, start, lengthRefusal, scan}
 use Rattle.dayfile.specs.Legs.{none, legCount, legTable}
-use Rattle.dayfile.specs.Day.{dayRefusal, dayRecords}
+use Rattle.dayfile.specs.Day.{mostCranes, mostCalls, dayRefusal, dayRecords}
 
 -- the place of the j-th record from index i: "Bytes 2-3: first place"
 abbrev pub stopFrom : List Record → ℕ → ℕ → ℕ
@@ -27,17 +27,24 @@ dayOf rs s =
       places = s .second;
       cranes = s .cranes;
       calls = s .calls;
-      starts = padded 16 (s .cranes) (stopFrom rs (legCount (s .second))) 0;
-      requests = padded 256 (s .calls) (stopFrom rs (legCount (s .second) + s .cranes)) 0;
+      starts = padded mostCranes (s .cranes) (stopFrom rs (legCount (s .second))) 0;
+      requests = padded mostCalls (s .calls) (stopFrom rs (legCount (s .second) + s .cranes)) 0;
     }
+
+-- the numbers of places, cranes and calls are within their limits, and the bytes are as long as their records
+pub record Room (n k m : ℕ) (bytes : List ℕ) : Type 0 where
+  pub places : n ≤ mostPlaces
+  pub cranes : k ≤ mostCranes
+  pub calls : m ≤ mostCalls
+  pub long : 12 * (legCount n + k + m) ≤ length bytes
 
 -- "other results 0"
 abbrev pub noDay : Day
-noDay = record { places = 0; cranes = 0; calls = 0; starts = replicate 16 0; requests = replicate 256 0 }
+noDay = record { places = 0; cranes = 0; calls = 0; starts = replicate mostCranes 0; requests = replicate mostCalls 0 }
 
 -- "then 8", with the index 0
 abbrev pub ways : List Record → Scan → Scan
-ways rs (counted s) = refuseAt 0 (triangleRefusal (s .second) (metresOf (legTable (s .second) rs))) (counted s)
+ways rs (counted s) = refuseAt 0 (triangleRefusal (s .second) (legTable (s .second) rs)) (counted s)
 ways rs (refused n i) = refused n i
 
 -- "File: 1; then record by record ..; then the end: 3, 6; then 8."
@@ -65,7 +72,7 @@ unfoldable pub readFile : List ℕ → Answer
 readFile bs = answerOf (records bs) (tested bs)
 
 -- the table of a refused file has no places, so it is 0 throughout
-abbrev pub readTable : List ℕ → List (List ℕ)
+abbrev pub readTable : List ℕ → Table
 readTable bs = legTable (readFile bs .day .places) (records bs)
 
 -- the number, 0 where the day is written; how many bytes; the whole buffer
@@ -86,12 +93,12 @@ abbrev pub dayBytes : Day → (ℕ → ℕ → ℕ) → List ℕ
 dayBytes day d = encodeAll (dayRecords day d)
 
 -- the same tests as in memory, then "output buffer shorter than the result"
-abbrev pub writeRefusal : Day → (ℕ → ℕ → ℕ) → List ℕ → ℕ
-writeRefusal day d out = dayRefusal day d then unless (leb (length (dayBytes day d)) (length out)) 11
+abbrev pub writeRefusal : Day → Table → List ℕ → ℕ
+writeRefusal day t out = dayRefusal day t then unless (leb (length (dayBytes day (metresOf t))) (length out)) 11
 
 -- "written output past the result's length is unchanged"; refused, all of it is
-unfoldable pub writeFile : Day → (ℕ → ℕ → ℕ) → List ℕ → Output
-writeFile day d out =
-    unlessRefused (writeRefusal day d out)
-    (record { number = 0; length = length (dayBytes day d); buffer = splice 0 (dayBytes day d) out })
+unfoldable pub writeFile : Day → Table → List ℕ → Output
+writeFile day t out =
+    unlessRefused (writeRefusal day t out)
+    (record { number = 0; length = length (dayBytes day (metresOf t)); buffer = splice 0 (dayBytes day (metresOf t)) out })
     (λ n. record { number = n; length = 0; buffer = out })

@@ -1,15 +1,16 @@
 -- The records of a file, tested one after another. What has been read is kept as four numbers: the first and second place
 -- of the next leg, were one to come, and how many cranes and calls there were. Where no legs are missing the next leg's
 -- first place is 0, and its second place is the number of places: "1 more than the last second place, or 1 with no legs".
-use Prim.Native.Nat.{ℕ, _+_, _%_}
+use Prim.Native.Nat.{ℕ, _+_, _%_, _<_, _≤_}
 use mathlib.Core.Bool.{Bool, cond}
 use mathlib.Core.List.{List, [], _∷_}
 use lib.Dec.{eqb, leb, ltb}
 use Rattle.base.specs.Numbers.{unless, _then_, unlessRefused}
 use Rattle.base.specs.Tests.{within}
-use Rattle.road.specs.Table.{metresRefusal}
+use Rattle.road.specs.Table.{mostPlaces, metresRefusal}
 use Rattle.dayfile.specs.declared.codec.Record.{Record}
 use Rattle.dayfile.specs.declared.scan.State.{State}
+use Rattle.dayfile.specs.Day.{mostCranes, mostCalls}
 
 -- "1 leg, 2 crane, 3 call": what is said of each kind
 abbrev pub byKind : {A : Type 0} → ℕ → A → A → A → A
@@ -18,6 +19,13 @@ byKind kind leg crane call = cond (eqb kind 1) leg (cond (eqb kind 2) crane call
 -- before the first record: the next leg is (0,1)
 abbrev pub start : State
 start = record { first = 0; second = 1; cranes = 0; calls = 0 }
+
+-- what has been read is within its limits
+pub record Limited (s : State) : Type 0 where
+  pub first : s .first < mostPlaces
+  pub second : s .second ≤ mostPlaces
+  pub cranes : s .cranes ≤ mostCranes
+  pub calls : s .calls ≤ mostCalls
 
 -- "in the order (0,1), (0,2), (1,2), (0,3), and so on: by second place, then by first"
 unfoldable pub afterLeg : State → State
@@ -51,7 +59,7 @@ formRefusal r =
 unfoldable pub legRefusal : State → Record → ℕ
 legRefusal s r =
     unless (eqb (s .cranes) 0) 3 then unless (eqb (r .first) (s .first)) 3 then unless (eqb (r .second) (s .second)) 3 then
-    unless (ltb (r .second) 64) 3 then metresRefusal (r .metres)
+    unless (ltb (r .second) mostPlaces) 3 then metresRefusal (r .metres)
 
 -- "a second place with legs missing .. met at the first record that isn't a leg, or at the end"
 abbrev pub missingRefusal : State → ℕ
@@ -67,11 +75,11 @@ stopRefusal s r rule = missingRefusal s then placeRefusal s r then unless rule 6
 
 -- "record out of order": a crane after a call; "seventeenth crane"
 unfoldable pub craneRefusal : State → Record → ℕ
-craneRefusal s r = unless (eqb (s .calls) 0) 3 then stopRefusal s r (ltb (s .cranes) 16)
+craneRefusal s r = unless (eqb (s .calls) 0) 3 then stopRefusal s r (ltb (s .cranes) mostCranes)
 
 -- "a call before any crane"; "calls above 256"
 unfoldable pub callRefusal : State → Record → ℕ
-callRefusal s r = stopRefusal s r (ltb 0 (s .cranes)) then unless (ltb (s .calls) 256) 7
+callRefusal s r = stopRefusal s r (ltb 0 (s .cranes)) then unless (ltb (s .calls) mostCalls) 7
 
 -- "each tested 2, 3, 4, 5, 6 .., 7"
 unfoldable pub recordRefusal : State → Record → ℕ

@@ -5,16 +5,16 @@ use crate::codec::Record;
 use road::Road;
 use road::Table;
 ghost use mathlib.Core.Path.{_≡_};
-ghost use Prim.Native.Nat.{ℕ, _+_, _*_, _<_, _≤_};
+ghost use Prim.Native.Nat.{_+_, _*_, _<_, _≤_};
 ghost use lib.ListN.{length};
 ghost use Rattle.base.specs.Lists.{upTo, splice};
-ghost use Rattle.road.specs.Table.{metresOf};
+ghost use Rattle.road.specs.Table.{mostPlaces, metresOf};
 ghost use Rattle.dayfile.specs.Codec.{records, encodeAll};
-ghost use Rattle.dayfile.specs.Legs.{legCount, leg, legMetres, between, legRow, legTable, legRecords};
+ghost use Rattle.dayfile.specs.Legs.{legCount, leg, legMetres, LegsHeld, between, legRow, legTable, legRecords};
 
 // How many legs there are between so many places.
 pub(crate) fn count(places: usize) -> usize
-    requires { ⌜ places ≤ 64 ⌝ }
+    requires { ⌜ places ≤ mostPlaces ⌝ }
     ensures { λ r. ⌜ r ≡ legCount places ⌝ }
 {
     if places == 0 {
@@ -25,7 +25,7 @@ pub(crate) fn count(places: usize) -> usize
 
 // The metres of the leg from u to the later place v.
 fn metres(bytes: &[u8], u: usize, v: usize) -> u32
-    requires { ⌜ (v ≤ 64) × (12 * (legCount v + u) + 12 ≤ length (now bytes)) ⌝ }
+    requires { ⌜ (v ≤ mostPlaces) × (12 * (legCount v + u) + 12 ≤ length (now bytes)) ⌝ }
     ensures { λ r. ⌜ r ≡ legMetres (records (now (bytes .entry))) u v ⌝ }
 {
     let r = codec::read(bytes, Day::RECORD_LENGTH * (count(v) + u));
@@ -34,7 +34,7 @@ fn metres(bytes: &[u8], u: usize, v: usize) -> u32
 
 // The metres between two of the places whose legs the file has.
 fn entry(bytes: &[u8], u: usize, v: usize) -> u32
-    requires { ⌜ ((n : ℕ) × ((n ≤ 64) × ((u < n) × ((v < n) × (12 * legCount n ≤ length (now bytes)))))) ⌝ }
+    requires { ⌜ LegsHeld u v (now bytes) ⌝ }
     ensures { λ r. ⌜ r ≡ between (records (now (bytes .entry))) u v ⌝ }
 {
     if u < v {
@@ -48,7 +48,7 @@ fn entry(bytes: &[u8], u: usize, v: usize) -> u32
 
 // The row of the table from u, 0 past the places.
 fn row(bytes: &[u8], places: usize, u: usize) -> [u32; Road::PLACES]
-    requires { ⌜ (places ≤ 64) × ((u < places) × (12 * legCount places ≤ length (now bytes))) ⌝ }
+    requires { ⌜ (places ≤ mostPlaces) × ((u < places) × (12 * legCount places ≤ length (now bytes))) ⌝ }
     ensures { λ r. ⌜ r ≡ legRow places (records (now (bytes .entry))) u ⌝ }
 {
     let mut row = [0; Road::PLACES];
@@ -62,7 +62,7 @@ fn row(bytes: &[u8], places: usize, u: usize) -> [u32; Road::PLACES]
 
 // The table of so many places, 0 past them.
 pub(crate) fn table(bytes: &[u8], places: usize) -> Table
-    requires { ⌜ (places ≤ 64) × (12 * legCount places ≤ length (now bytes)) ⌝ }
+    requires { ⌜ (places ≤ mostPlaces) × (12 * legCount places ≤ length (now bytes)) ⌝ }
     ensures { λ r. ⌜ r ≡ legTable places (records (now (bytes .entry))) ⌝ }
 {
     let mut table = [[0; Road::PLACES]; Road::PLACES];
@@ -76,7 +76,7 @@ pub(crate) fn table(bytes: &[u8], places: usize) -> Table
 
 // The records of the legs to v from the earlier places, into the buffer from their own place in the file.
 fn put_to(table: &Table, v: usize, out: &mut [u8])
-    requires { ⌜ (v < 64) × (12 * (legCount v + v) ≤ length (now out)) ⌝ }
+    requires { ⌜ (v < mostPlaces) × (12 * (legCount v + v) ≤ length (now out)) ⌝ }
     ensures { λ _. ⌜ now (out .exit) ≡ splice (12 * legCount v) (encodeAll (upTo v (λ u. leg u v (metresOf (now (table .entry)) u v)))) (now (out .entry)) ⌝ }
 {
     let from = count(v);
@@ -97,7 +97,7 @@ fn put_to(table: &Table, v: usize, out: &mut [u8])
 
 // The records of all legs, into the front of the buffer.
 pub(crate) fn put(table: &Table, places: usize, out: &mut [u8])
-    requires { ⌜ (places ≤ 64) × (12 * legCount places ≤ length (now out)) ⌝ }
+    requires { ⌜ (places ≤ mostPlaces) × (12 * legCount places ≤ length (now out)) ⌝ }
     ensures { λ _. ⌜ now (out .exit) ≡ splice 0 (encodeAll (legRecords (metresOf (now (table .entry))) places)) (now (out .entry)) ⌝ }
 {
     let mut v = 0;

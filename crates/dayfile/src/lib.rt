@@ -3,20 +3,16 @@ mod codec;
 mod legs;
 mod scan;
 mod stops;
+mod write;
 
 use base::Refusal;
 use base::Verdict;
 use road::Road;
 use road::Table;
 ghost use mathlib.Core.Path.{_≡_};
-ghost use Prim.Native.Nat.{_+_, _*_, _≤_};
-ghost use lib.ListN.{length};
-ghost use Rattle.base.specs.Lists.{splice};
 ghost use Rattle.base.specs.Numbers.{numberOf};
-ghost use Rattle.road.specs.Table.{metresOf};
-ghost use Rattle.dayfile.specs.Day.{countsRefusal, stopsRefusal, dayRefusal};
-ghost use Rattle.dayfile.specs.File.{answer, refusal, readFile, readTable, written, dayBytes, writeFile};
-ghost use Rattle.dayfile.specs.Legs.{legCount};
+ghost use Rattle.dayfile.specs.Day.{countsRefusal, stopsRefusal, placedRefusal, dayRefusal};
+ghost use Rattle.dayfile.specs.File.{answer, readFile, readTable, written, writeFile};
 
 // A day in memory, beside its road table. The entries of `starts` past the number of cranes and of `requests` past the
 // number of calls are ignored where a day is given, and 0 in a day that is returned.
@@ -63,19 +59,19 @@ impl Day {
     {
         let long = scan::test_length(bytes.len());
         let Verdict::Accepted = long else {
-            return refused(long, 0);
+            return scan::refused(long, 0);
         };
         let found = scan::scan(bytes);
         let verdict = found.verdict;
         let Verdict::Accepted = verdict else {
-            return refused(verdict, found.index);
+            return scan::refused(verdict, found.index);
         };
         let state = found.state;
         let places = state.second;
         let table = legs::table(bytes, places);
         let ways = Road::test_triangles(places, table);
         let Verdict::Accepted = ways else {
-            return refused(ways, 0);
+            return scan::refused(ways, 0);
         };
         Reading {
             verdict: Verdict::Accepted,
@@ -126,9 +122,9 @@ impl Day {
         Verdict::Accepted
     }
 
-    // The whole test of a day in memory: 3, 6, 7, 4, 5, 8.
-    pub fn test(self, table: Table) -> Verdict
-        ensures { λ r. ⌜ numberOf r ≡ dayRefusal self (metresOf table) ⌝ }
+    // The tests that a day and a book have in common: 3, 6, 7, 4, then 5 for the starts and the calls.
+    pub fn test_placed(self, table: Table) -> Verdict
+        ensures { λ r. ⌜ numberOf r ≡ placedRefusal self table ⌝ }
     {
         let places = self.places;
         let cranes = self.cranes;
@@ -147,16 +143,23 @@ impl Day {
         let Verdict::Accepted = started else {
             return started;
         };
-        let called = Day::test_stops(places, &requests[..calls]);
-        let Verdict::Accepted = called else {
-            return called;
+        Day::test_stops(places, &requests[..calls])
+    }
+
+    // The whole test of a day in memory: 3, 6, 7, 4, 5, 8.
+    pub fn test(self, table: Table) -> Verdict
+        ensures { λ r. ⌜ numberOf r ≡ dayRefusal self table ⌝ }
+    {
+        let placed = self.test_placed(table);
+        let Verdict::Accepted = placed else {
+            return placed;
         };
-        Road::test_triangles(places, table)
+        Road::test_triangles(self.places, table)
     }
 
     // The day's file, into the front of a lent buffer; the same test, then 11 where the buffer is too short.
     pub fn write(self, table: Table, out: &mut [u8]) -> Written
-        ensures { λ r. ⌜ written r (now (out .exit)) ≡ writeFile self (metresOf table) (now (out .entry)) ⌝ }
+        ensures { λ r. ⌜ written r (now (out .exit)) ≡ writeFile self table (now (out .entry)) ⌝ }
     {
         let tested = self.test(table);
         let Verdict::Accepted = tested else {
@@ -173,43 +176,10 @@ impl Day {
                 length: 0,
             };
         }
-        put(self, &table, out);
+        write::put(self, &table, out);
         Written {
             verdict: Verdict::Accepted,
             length,
         }
     }
-}
-
-// A reading that is refused.
-fn refused(verdict: Verdict, index: usize) -> Reading
-    ensures { λ r. ⌜ answer r ≡ refusal (numberOf verdict) index ⌝ }
-{
-    Reading {
-        verdict,
-        index,
-        day: Day {
-            places: 0,
-            cranes: 0,
-            calls: 0,
-            starts: [0; Day::CRANES],
-            requests: [0; Day::CALLS],
-        },
-    }
-}
-
-// The records of a day, into the front of the buffer.
-fn put(day: Day, table: &Table, out: &mut [u8])
-    requires { ⌜ (day .places ≤ 64) × ((day .cranes ≤ 16) × ((day .calls ≤ 256) × (12 * (legCount (day .places) + day .cranes + day .calls) ≤ length (now out)))) ⌝ }
-    ensures { λ _. ⌜ now (out .exit) ≡ splice 0 (dayBytes day (metresOf (now (table .entry)))) (now (out .entry)) ⌝ }
-{
-    let places = day.places;
-    let cranes = day.cranes;
-    let calls = day.calls;
-    let starts = day.starts;
-    let requests = day.requests;
-    let legs = legs::count(places);
-    legs::put(table, places, out);
-    stops::put(codec::CRANE, &starts[..cranes], out, legs);
-    stops::put(codec::CALL, &requests[..calls], out, legs + cranes);
 }

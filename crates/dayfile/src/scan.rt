@@ -1,5 +1,6 @@
-// A file's records, tested one after another in one pass; and the day of a file that was accepted.
+// A file's records, tested one after another in one pass; and what is read of a refused file and of an accepted one.
 use crate::Day;
+use crate::Reading;
 use crate::codec;
 use crate::codec::Record;
 use crate::legs;
@@ -8,14 +9,12 @@ use base::Refusal;
 use base::Verdict;
 use road::Road;
 ghost use mathlib.Core.Path.{_≡_};
-ghost use Prim.Native.Nat.{_+_, _*_, _<_, _≤_};
 ghost use lib.ListN.{length};
 ghost use Rattle.base.specs.Numbers.{numberOf};
 ghost use Rattle.dayfile.specs.Codec.{records};
-ghost use Rattle.dayfile.specs.Legs.{legCount};
-ghost use Rattle.dayfile.specs.Scan.{start, after, lengthRefusal, bareRefusal, formRefusal, legRefusal, stopRefusal, craneRefusal, callRefusal, recordRefusal, endRefusal, counted, refuseAt};
+ghost use Rattle.dayfile.specs.Scan.{start, Limited, after, lengthRefusal, bareRefusal, formRefusal, legRefusal, stopRefusal, craneRefusal, callRefusal, recordRefusal, endRefusal, counted, refuseAt};
 ghost use Rattle.dayfile.specs.Scan as spec;
-ghost use Rattle.dayfile.specs.File.{dayOf};
+ghost use Rattle.dayfile.specs.File.{dayOf, Room, answer, refusal};
 
 // What has been read: the first and second place of the next leg, were one to come, and the numbers of cranes and calls.
 pub struct State {
@@ -173,7 +172,7 @@ fn test_end(s: State) -> Verdict
 
 // What has been read once the record was accepted.
 fn next(s: State, r: Record) -> State
-    requires { ⌜ (s .first < 64) × ((s .second ≤ 64) × ((s .cranes ≤ 16) × (s .calls ≤ 256))) ⌝ }
+    requires { ⌜ Limited s ⌝ }
     ensures { λ t. ⌜ t ≡ after s r ⌝ }
 {
     let first = s.first;
@@ -245,9 +244,26 @@ pub(crate) fn scan(bytes: &[u8]) -> Found
     }
 }
 
+// The reading of a file that is refused.
+pub(crate) fn refused(verdict: Verdict, index: usize) -> Reading
+    ensures { λ r. ⌜ answer r ≡ refusal (numberOf verdict) index ⌝ }
+{
+    Reading {
+        verdict,
+        index,
+        day: Day {
+            places: 0,
+            cranes: 0,
+            calls: 0,
+            starts: [0; Day::CRANES],
+            requests: [0; Day::CALLS],
+        },
+    }
+}
+
 // The day of a file's records.
 pub(crate) fn day(bytes: &[u8], s: State) -> Day
-    requires { ⌜ (s .second ≤ 64) × ((s .cranes ≤ 16) × ((s .calls ≤ 256) × (12 * (legCount (s .second) + s .cranes + s .calls) ≤ length (now bytes)))) ⌝ }
+    requires { ⌜ Room (s .second) (s .cranes) (s .calls) (now bytes) ⌝ }
     ensures { λ r. ⌜ r ≡ dayOf (records (now (bytes .entry))) s ⌝ }
 {
     let legs = legs::count(s.second);

@@ -7,22 +7,22 @@ use Rattle.base.specs.Lists.{upTo}
 use Rattle.base.specs.Tests.{within, allBelow}
 use Rattle.road.specs.Table.{legRule}
 use Rattle.dayfile.specs.Codec.{decode, records}
-use Rattle.dayfile.specs.Day.{countsRefusal, dayRefusal}
+use Rattle.dayfile.specs.Day.{countsRefusal, placedRefusal, dayRefusal}
 use Rattle.dayfile.specs.File.{dayOf, tested, readFile}
 use Rattle.dayfile.specs.Legs.{legCount, between, legRow, legTable}
 use Rattle.dayfile.specs.Scan.{afterLeg, after, lengthRefusal, bareRefusal, formRefusal, legRefusal, stopRefusal, craneRefusal, callRefusal, recordRefusal, endRefusal, scan}
 use Rattle.workfunction.specs.Lists.{minimum, insertions, permutations, sumBelow, filter, leastBy, sections}
 use Rattle.workfunction.specs.Position.{positions, pairing, distance}
 use Rattle.workfunction.specs.Movement.{contains, movements, cost, work, floor}
-use Rattle.workfunction.specs.Choice.{preferred, drive, moveSum, choice}
+use Rattle.workfunction.specs.Choice.{narrowed, preferred, drive, moveSum, choice}
 use Rattle.workfunction.specs.Serving.{servedBy, serve}
 use Rattle.workfunction.specs.Plan.{mayFollow, follows, followersRule, onceRule, planRule, slackRule, vouchAt, vouchRule, place, legCost}
 use Rattle.book.specs.Book.{weightRule, bookRefusal, freshBook, freshOf}
-use Rattle.book.specs.Serving.{servedOf, costsOf, servedDay}
+use Rattle.dispatch.specs.Serving.{servedOf, costsOf, servedDay}
 use Rattle.report.specs.Text.{upToDigits, decimal, callLine, lastLine, callLines, dayText}
 use Rattle.report.specs.Report.{figuresText, printOf}
 use Rattle.edges.specs.Cases.{cases, same, agrees, allAgree}
 
 pub cases-agree : allAgree cases ≡ true
-unfolding cases same agrees allAgree upTo within allBelow legRule decode records countsRefusal dayRefusal dayOf tested readFile legCount between legRow legTable afterLeg after lengthRefusal bareRefusal formRefusal legRefusal stopRefusal craneRefusal callRefusal recordRefusal endRefusal scan flatMap headD minimum insertions permutations sumBelow filter leastBy sections positions pairing distance contains movements cost work floor preferred drive moveSum choice servedBy serve mayFollow follows followersRule onceRule planRule slackRule vouchAt vouchRule place legCost weightRule bookRefusal freshBook freshOf servedOf costsOf servedDay upToDigits decimal callLine lastLine callLines dayText figuresText printOf
+unfolding cases same agrees allAgree upTo within allBelow legRule decode records countsRefusal placedRefusal dayRefusal dayOf tested readFile legCount between legRow legTable afterLeg after lengthRefusal bareRefusal formRefusal legRefusal stopRefusal craneRefusal callRefusal recordRefusal endRefusal scan flatMap headD minimum insertions permutations sumBelow filter leastBy sections positions pairing distance contains movements cost work floor narrowed preferred drive moveSum choice servedBy serve mayFollow follows followersRule onceRule planRule slackRule vouchAt vouchRule place legCost weightRule bookRefusal freshBook freshOf servedOf costsOf servedDay upToDigits decimal callLine lastLine callLines dayText figuresText printOf
 cases-agree = refl

@@ -5,12 +5,13 @@ use mathlib.Core.List.{List, [], _∷_, _++_, map}
 use lib.Dec.{eqb}
 use lib.ListN.{length, replicate}
 use Rattle.base.specs.Lists.{upTo}
-use Rattle.road.specs.Table.{metresOf, tableRefusal}
+use Rattle.road.specs.Table.{Table, mostPlaces, metresOf, tableRefusal}
+use Rattle.dayfile.specs.Day.{mostCranes, mostCalls}
 use Rattle.dayfile.specs.File.{readFile}
 use Rattle.workfunction.specs.Choice.{moveSum}
 use Rattle.book.specs.Book.{startsOf, standsOf, requestsOf, freshOf}
-use Rattle.book.specs.Serving.{Outcome, servedOf, TwoCosts, costsOf}
 use Rattle.book.specs.declared.Book.{Book}
+use Rattle.dispatch.specs.Serving.{Outcome, servedOf, TwoCosts, costsOf}
 use Rattle.report.specs.Report.{printOf}
 
 pub data Case : Type 0 where
@@ -102,21 +103,21 @@ cases =
 abbrev array : {A : Type 0} → ℕ → A → List A → List A
 array n z l = l ++ replicate (n - length l) z
 
--- the metres of a road table, by the rows of its places
-abbrev metres : List (List ℕ) → ℕ → ℕ → ℕ
-metres rows = metresOf (array 64 (replicate 64 0) (map (array 64 0) rows))
+-- the road table, by the rows of its places
+abbrev roads : List (List ℕ) → Table
+roads rows = array mostPlaces (replicate mostPlaces 0) (map (array mostPlaces 0) rows)
 
 -- the book that is opened for a day without calls
 abbrev opened : List (List ℕ) → List ℕ → Book
 opened rows starts =
     freshOf
-    (record { places = length rows; cranes = length starts; calls = 0; starts = array 16 0 starts; requests = replicate 256 0 })
-    (metres rows) .book
+    (record { places = length rows; cranes = length starts; calls = 0; starts = array mostCranes 0 starts; requests = replicate mostCalls 0 })
+    (roads rows) .book
 
 -- w(C(s)) + d(s,r) of each crane s
 abbrev sums : List (List ℕ) → Book → ℕ → List ℕ
 sums rows book r =
-    upTo (book .cranes) (moveSum (metres rows) (length rows) (startsOf book) (requestsOf book) (standsOf book) r)
+    upTo (book .cranes) (moveSum (metresOf (roads rows)) (length rows) (startsOf book) (requestsOf book) (standsOf book) r)
 
 -- two lists have the same entries
 unfoldable pub same : List ℕ → List ℕ → Bool
@@ -135,11 +136,11 @@ figures s m w o = eqb (o .number) 0 && eqb (o .figures .crane) s && eqb (o .figu
 
 -- The figures of a call do not depend on the plan and the weights of the book after it, which are left out.
 unfoldable pub agrees : Case → Bool
-agrees (table n rows r) = eqb (tableRefusal n (metres rows)) r
+agrees (table n rows r) = eqb (tableRefusal n (roads rows)) r
 agrees (file bs n i) = eqb (readFile bs .number) n && eqb (readFile bs .index) i
-agrees (fresh rows starts w f) = costs w f (costsOf (opened rows starts) (length rows) (metres rows))
+agrees (fresh rows starts w f) = costs w f (costsOf (opened rows starts) (length rows) (roads rows))
 agrees (served rows starts r l s m w) =
-    same (sums rows (opened rows starts) r) l && figures s m w (servedOf (opened rows starts) (length rows) (metres rows) r [] [])
+    same (sums rows (opened rows starts) r) l && figures s m w (servedOf (opened rows starts) (length rows) (roads rows) r [] [])
 agrees (print bs out) = same (printOf bs) out
 
 unfoldable pub allAgree : List Case → Bool

@@ -9,13 +9,13 @@ use native.Mathlib.Omega.{arith}
 use Rattle.base.specs.Lists.{splice}
 use Rattle.base.proofs.Lists.{drop-replicate}
 use Rattle.base.proofs.Numbers.{zeros-told, either-told}
-use Rattle.road.specs.Table.{metresOf}
+use Rattle.road.specs.Table.{Table}
 use Rattle.dayfile.specs.declared.Day.{Day}
-use Rattle.dayfile.specs.Day.{dayRefusal}
+use Rattle.dayfile.specs.Day.{mostCalls, dayRefusal}
 use Rattle.dayfile.specs.File.{Answer, readFile, readTable}
 use Rattle.dayfile.proofs.Limits.{day-tested}
 use Rattle.dayfile.proofs.RoundTrip.{file-accepted}
-use Rattle.book.specs.Serving.{DayFigures, servedDay}
+use Rattle.dispatch.specs.Serving.{DayFigures, servedDay}
 use Rattle.report.specs.declared.Printed.{Printed}
 use Rattle.report.specs.Text.{callLines, lastLine, refusedLine, dayText}
 use Rattle.report.specs.Put.{Put}
@@ -24,13 +24,13 @@ use Rattle.report.proofs.text.Laws.{put-on, calls-most, day-fits, lengt
 
 -- ---- a served day
 
-pub served-calls : (day : Day) (d : ℕ → ℕ → ℕ) → servedDay day d .calls ≤ 256
+pub served-calls : (day : Day) (t : Table) → servedDay day t .calls ≤ mostCalls
 unfolding servedDay
-served-calls day d =
-    either-told (λ (s : DayFigures). s .calls ≤ 256) (dayRefusal day d) _ _ (λ e. day-tested day d e .counts .calls) (λ n. zero-le)
+served-calls day t =
+    either-told (λ (s : DayFigures). s .calls ≤ mostCalls) (dayRefusal day t) _ _ (λ e. day-tested day t e .counts .calls) (λ n. zero-le)
 
 module _ (s : DayFigures) where
-  figures-fit : s .calls ≤ 256 → length (figuresText s) ≤ 32768
+  figures-fit : s .calls ≤ mostCalls → length (figuresText s) ≤ 32768
   unfolding figuresText
   figures-fit calls =
       either-told (λ (text : List ℕ). length text ≤ 32768) (s .number) _ _ (λ e. day-fits _ _ _ (s .calls) (s .driven) (s .floor) calls)
@@ -42,7 +42,7 @@ module _ (s : DayFigures) where
   day-refused n e h p = rw (← zeros-told (s .number) _ (λ (k : ℕ). refusedLine k 0) h, ← e) p
 
   -- the last line behind those of the calls
-  pub day-put : {old mid now : List ℕ} {x y : ℕ} → s .number ≡ 0 → s .calls ≤ 256 → 32768 ≤ length old
+  pub day-put : {old mid now : List ℕ} {x y : ℕ} → s .number ≡ 0 → s .calls ≤ mostCalls → 32768 ≤ length old
       → Put (callLines (s .calls) (λ i. getD (s .cranes) i 0) (λ i. getD (s .metres) i 0) (λ i. getD (s .leasts) i 0)) old 0 mid x
       → Put (lastLine (s .driven) (s .floor)) mid x now y → Put (figuresText s) old 0 now y
   unfolding figuresText dayText
@@ -58,12 +58,12 @@ module _ (file : List ℕ) (a : Answer) (e : a ≡ readFile file) where
   file-refused n q h p = rw (← e, ← zeros-told (a .number) _ (λ (k : ℕ). refusedLine k (a .index)) h, ← q) p
 
   pub file-served : (table : List (List ℕ)) {old now : List ℕ} {r : ℕ} → table ≡ readTable file → a .number ≡ 0
-      → Put (figuresText (servedDay (a .day) (metresOf table))) old 0 now r → Put (printOf file) old 0 now r
+      → Put (figuresText (servedDay (a .day) table)) old 0 now r → Put (printOf file) old 0 now r
   unfolding printOf
   file-served table q z p = rw (← e, z) (rw (q, ← e) at p)
 
 -- the day of an accepted file is served: a file's own test leaves nothing for the day's to refuse
-pub accepted-served : (file : List ℕ) → readFile file .number ≡ 0 → servedDay (readFile file .day) (metresOf (readTable file)) .number ≡ 0
+pub accepted-served : (file : List ℕ) → readFile file .number ≡ 0 → servedDay (readFile file .day) (readTable file) .number ≡ 0
 unfolding servedDay
 accepted-served file h = rw (file-accepted file h)
 
@@ -74,7 +74,7 @@ pub print-fits : (file : List ℕ) → length (printOf file) ≤ 32768
 unfolding printOf
 print-fits file =
     either-told (λ (text : List ℕ). length text ≤ 32768) (readFile file .number) _ _
-    (λ e. figures-fit _ (served-calls (readFile file .day) (metresOf (readTable file))))
+    (λ e. figures-fit _ (served-calls (readFile file .day) (readTable file)))
     (λ n. omega (arith, length-refusedLine n (readFile file .index)))
 
 -- a text written into the front of zeros

@@ -2,20 +2,19 @@
 use Prim.Native.Nat.{ℕ, zero, suc, _<_, suc-le-suc}
 use mathlib.Core.List.{List, [], _++_}
 use mathlib.Core.Path.{_≡_, refl, ap, ap₂, _∙_}
-use lib.ListN.{length, getD}
-use lib.Seq.{length-take-le}
+use lib.ListN.{getD}
 use native.Mathlib.Nat.{le-of-lt, le-refl}
 use Rattle.base.specs.Lists.{padded}
 use Rattle.base.proofs.Lists.{getD-padded}
-use Rattle.dayfile.specs.Day.{DayArrays, dayRefusal}
-use Rattle.dayfile.specs.File.{readFile}
-use Rattle.dayfile.proofs.Limits.{day-tested}
+use Rattle.dayfile.specs.Day.{mostCalls, DayArrays, dayRefusal}
+use Rattle.dayfile.specs.File.{readFile, readTable}
+use Rattle.dayfile.proofs.Limits.{day-tested, length-requests}
 use Rattle.dayfile.proofs.RoundTrip.{file-accepted, read-arrays}
 use Rattle.workfunction.specs.Serving.{Served, serve}
 use Rattle.workfunction.proofs.Serving.{serve-at}
 use Rattle.workfunction.proofs.Sums.{sum-same}
-use Rattle.book.specs.Serving.{nth, unserved, servedDay}
-use Rattle.book.proofs.Promise.{day-least, day-floor}
+use Rattle.dispatch.specs.Serving.{nth, unserved, servedDay}
+use Rattle.dispatch.proofs.Promise.{day-least, day-floor}
 use Rattle.report.specs.Promise.{day, d, starts, calls, told, driven, lowest, PrintProved}
 use Rattle.report.specs.Report.{figuresText, printOf}
 use Rattle.report.specs.Text.{callLines, lastLine, dayText}
@@ -34,7 +33,7 @@ callLines-same (suc m) a b c =
     )
 
 module _ (file : List ℕ) (accepted : readFile file .number ≡ 0) where
-  none : dayRefusal (day file) (d file) ≡ 0
+  none : dayRefusal (day file) (readTable file) ≡ 0
   none = file-accepted file accepted
 
   arrays : DayArrays (day file)
@@ -48,12 +47,12 @@ module _ (file : List ℕ) (accepted : readFile file .number ≡ 0) where
     told-is : nth all i ≡ told file i
     unfolding all
     told-is =
-        let long = length-take-le (day file .calls) (day file .requests) (rw (arrays .requests) (day-tested (day file) (d file) none .counts .calls)) in
+        let long = length-requests (day file) arrays (day-tested (day file) (readTable file) none .counts .calls) in
         serve-at (d file) (day file .places) (starts file) unserved [] (starts file) (calls file) i (rw long called)
 
     -- a figure of call i, in its array
-    figure-is : (figure : Served → ℕ) → getD (padded 256 (day file .calls) (λ j. figure (nth all j)) 0) i 0 ≡ figure (told file i)
-    figure-is figure = getD-padded 256 (day file .calls) _ 0 0 i called ∙ ap figure told-is
+    figure-is : (figure : Served → ℕ) → getD (padded mostCalls (day file .calls) (λ j. figure (nth all j)) 0) i 0 ≡ figure (told file i)
+    figure-is figure = getD-padded mostCalls (day file .calls) _ 0 0 i called ∙ ap figure told-is
 
   lines-are : printOf file
       ≡ dayText (day file .calls) (λ i. told file i .crane) (λ i. told file i .metres) (λ i. told file i .least) (driven file) (lowest file)
@@ -64,11 +63,11 @@ module _ (file : List ℕ) (accepted : readFile file .number ≡ 0) where
       (callLines-same (day file .calls) (λ i l. figure-is i l (λ s. s .crane)) (λ i l. figure-is i l (λ s. s .metres)) (λ i l. figure-is i l (λ s. s .least)))
       (sum-same (day file .calls) _ _ (λ i l. ap (λ (s : Served). s .metres) (told-is i l))))
 
-  least-told : (i : ℕ) → i < day file .calls → getD (servedDay (day file) (d file) .leasts) i 0 ≡ told file i .least
+  least-told : (i : ℕ) → i < day file .calls → getD (servedDay (day file) (readTable file) .leasts) i 0 ≡ told file i .least
   unfolding servedDay all
   least-told i called = rw none (figure-is i called (λ s. s .least))
 
-  floor-told : servedDay (day file) (d file) .floor ≡ lowest file
+  floor-told : servedDay (day file) (readTable file) .floor ≡ lowest file
   unfolding servedDay
   floor-told = rw none
 
@@ -76,6 +75,6 @@ module _ (file : List ℕ) (accepted : readFile file .number ≡ 0) where
   pub print-proved : PrintProved file
   print-proved = record {
     lines = lines-are;
-    least = λ i called. rw (least-told i called) at (day-least (day file) (d file) arrays none i called);
-    floored = rw floor-told at (day-floor (day file) (d file) arrays none);
+    least = λ i called. rw (least-told i called) at (day-least (day file) (readTable file) arrays none i called);
+    floored = rw floor-told at (day-floor (day file) (readTable file) arrays none);
   }

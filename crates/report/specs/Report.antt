@@ -3,9 +3,8 @@ use Prim.Native.Nat.{ℕ, _-_}
 use mathlib.Core.List.{List, _++_}
 use lib.ListN.{length, getD, replicate}
 use Rattle.base.specs.Numbers.{unlessRefused}
-use Rattle.road.specs.Table.{metresOf}
 use Rattle.dayfile.specs.File.{readFile, readTable}
-use Rattle.book.specs.Serving.{DayFigures, servedDay}
+use Rattle.dispatch.specs.Serving.{DayFigures, servedDay}
 use Rattle.report.specs.declared.Printed.{Printed}
 use Rattle.report.specs.Text.{refusedLine, dayText}
 
@@ -20,7 +19,7 @@ figuresText s =
 unfoldable pub printOf : List ℕ → List ℕ
 printOf file =
     unlessRefused (readFile file .number)
-    (figuresText (servedDay (readFile file .day) (metresOf (readTable file))))
+    (figuresText (servedDay (readFile file .day) (readTable file)))
     (λ n. refusedLine n (readFile file .index))
 
 -- a text in an array of 32,768 bytes, with 0 behind it

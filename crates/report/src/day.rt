@@ -2,13 +2,12 @@
 // wrote.
 use crate::text;
 use base::Verdict;
-use book::Book;
 use dayfile::Day;
+use dispatch::Dispatch;
 use road::Table;
 ghost use Prim.Native.Nat.{_≤_};
 ghost use lib.ListN.{length};
-ghost use Rattle.road.specs.Table.{metresOf};
-ghost use Rattle.book.specs.Serving.{servedDay};
+ghost use Rattle.dispatch.specs.Serving.{servedDay};
 ghost use Rattle.report.specs.Put.{Put};
 ghost use Rattle.report.specs.Report.{figuresText, printOf};
 
@@ -30,9 +29,9 @@ pub(crate) fn put_print(file: &[u8], out: &mut [u8]) -> usize
 // The print of a day: the line of its refusal, or the lines of its calls and the last line.
 fn put_day(day: Day, table: Table, out: &mut [u8]) -> usize
     requires { ⌜ 32768 ≤ length (now out) ⌝ }
-    ensures { λ r. ⌜ Put (figuresText (servedDay day (metresOf table))) (now (out .entry)) 0 (now (out .exit)) r ⌝ }
+    ensures { λ r. ⌜ Put (figuresText (servedDay day table)) (now (out .entry)) 0 (now (out .exit)) r ⌝ }
 {
-    let served = Book::serve_day(day, table);
+    let served = Dispatch::serve_day(day, table);
     let verdict = served.verdict;
     let Verdict::Accepted = verdict else {
         return text::put_refused(base::number(verdict) as u64, 0, out);

@@ -1,9 +1,9 @@
 // The lines of the print, into a buffer. Each function writes from the index `at`, or from the front, and returns the index
 // behind what it wrote.
-ghost use Prim.Native.Nat.{_+_, _*_, _≤_};
+ghost use Prim.Native.Nat.{_+_, _≤_};
 ghost use lib.ListN.{length, getD};
 ghost use Rattle.report.specs.Text.{decimal, field, callLine, lastLine, refusedLine, callLines};
-ghost use Rattle.report.specs.Put.{Put};
+ghost use Rattle.report.specs.Put.{Put, CallsGiven};
 
 fn put(text: &[u8], out: &mut [u8], at: usize) -> usize
     requires { ⌜ at + length (now text) ≤ length (now out) ⌝ }
@@ -51,7 +51,7 @@ pub(crate) fn put_calls(
     leasts: &[u64],
     out: &mut [u8],
 ) -> usize
-    requires { ⌜ (calls ≤ length (now cranes)) × ((calls ≤ length (now metres)) × ((calls ≤ length (now leasts)) × (108 * calls ≤ length (now out)))) ⌝ }
+    requires { ⌜ CallsGiven calls (now cranes) (now metres) (now leasts) (now out) ⌝ }
     ensures { λ r. ⌜ Put (callLines calls (λ i. getD (now (cranes .entry)) i 0) (λ i. getD (now (metres .entry)) i 0) (λ i. getD (now (leasts .entry)) i 0)) (now (out .entry)) 0 (now (out .exit)) r ⌝ }
 {
     let mut at = 0;

@@ -1,4 +1,4 @@
--- The laws of an entry and of a leg, for the functions that read them; and an accepted table is a metric.
+-- The laws of the number of places, of an entry, and of the rules of legs and triangles over the metres d.
 -- Assumes nothing.
 use Prim.Native.Nat.{ℕ, _+_, _<_, _≤_}
 use mathlib.Core.Bool.{true, false, _&&_, and-eq-true-iff, and-false}
@@ -7,25 +7,27 @@ use borrow.Author.Tests.{leb-true, eq-eqb, ne-eqb, eqb-true, lt-ltb, le-ltb}
 use lib.Dec.{ltb, eqb}
 use native.Mathlib.Decide.{ℕ-discrete}
 use native.Mathlib.Omega.{arith}
+use Rattle.base.specs.declared.Verdict.{Verdict}
+use Rattle.base.specs.declared.Verdict.the-variants.{Accepted}
 use Rattle.base.specs.Metric.{Metric}
-use Rattle.base.specs.Numbers.{_then_}
+use Rattle.base.specs.Numbers.{numberOf}
 use Rattle.base.specs.Tests.{allBelow}
-use Rattle.base.proofs.Numbers.{unless-zero, then-zero}
-use Rattle.base.proofs.Tests.{by-order, below-at, below-all, below-same}
-use Rattle.road.specs.Table.{entry, metresRule, legRule, legsRule, wayRule, triangleRule, placesRefusal, legsRefusal, triangleRefusal, tableRefusal}
+use Rattle.base.proofs.Numbers.{holds}
+use Rattle.base.proofs.Tests.{by-order, within-most, below-at, below-all, below-same}
+use Rattle.road.specs.Table.{mostPlaces, entry, placesRule, placesRefusal, metresRule, legRule, legsRule, wayRule, triangleRule}
 
 module _ (d : ℕ → ℕ → ℕ) (u v : ℕ) where
-  pub entry-in : u < 64 → v < 64 → entry d u v ≡ d u v
+  pub entry-in : u < mostPlaces → v < mostPlaces → entry d u v ≡ d u v
   unfolding entry
-  entry-in p q = rw (lt-ltb u 64 p, lt-ltb v 64 q)
+  entry-in p q = rw (lt-ltb u mostPlaces p, lt-ltb v mostPlaces q)
 
-  pub entry-past-rows : 64 ≤ u → entry d u v ≡ 0
+  pub entry-past-rows : mostPlaces ≤ u → entry d u v ≡ 0
   unfolding entry
-  entry-past-rows p = rw (le-ltb u 64 p)
+  entry-past-rows p = rw (le-ltb u mostPlaces p)
 
-  pub entry-past-columns : 64 ≤ v → entry d u v ≡ 0
+  pub entry-past-columns : mostPlaces ≤ v → entry d u v ≡ 0
   unfolding entry
-  entry-past-columns p = rw (le-ltb v 64 p, and-false (ltb u 64))
+  entry-past-columns p = rw (le-ltb v mostPlaces p, and-false (ltb u mostPlaces))
 
   self-leg : u ≡ v → legRule d u v ≡ eqb (d u v) 0
   unfolding legRule
@@ -54,6 +56,10 @@ module _ (d : ℕ → ℕ → ℕ) (u v : ℕ) where
       either (yes e) = rw e
       either (no ne) = eqb-true (d u v) (d v u) (and-eq-true-iff (eqb (d u v) (d v u)) (metresRule (d u v)) .0 (sym (other-leg ne) ∙ h) .0)
 
+-- an accepted number of places
+pub few-places : (v : Verdict) (n : ℕ) → v ≡ Accepted → numberOf v ≡ placesRefusal n → n ≤ mostPlaces
+few-places v n e h = within-most 1 mostPlaces n (holds v (placesRule n) 2 e h)
+
 module _ (n : ℕ) (d : ℕ → ℕ → ℕ) where
   leg-at : legsRule n d ≡ true → (u v : ℕ) → u < n → v < n → legRule d u v ≡ true
   leg-at h u v p q = below-at (legRule d u) n (below-at (λ (a : ℕ). allBelow n (legRule d a)) n h u p) v q
@@ -77,30 +83,21 @@ module _ (n : ℕ) (d : ℕ → ℕ → ℕ) where
       (λ (e : u ≡ v). self-leg-zero d u v e (ap (d u) (sym e) ∙ self u p))
       (λ (l : v < u). leg-even d u v (λ e. omega arith) (both u v p q) ∙ rw (both u v p q) (metres v u l p))))
 
-  -- the tests 4 and 8 make a metric, whatever the layer above tests between them
-  pub tested-metric : legsRule n d ≡ true → triangleRule n d ≡ true → Metric n d
-  tested-metric legs triangles = record {
+  -- legs and triangles within the rules make a metric
+  pub metric-of : legsRule n d ≡ true → triangleRule n d ≡ true → Metric n d
+  metric-of legs triangles = record {
     self = λ u p. eqb-true (d u u) 0 (sym (self-leg d u u refl) ∙ leg-at legs u u p p);
     both-ways = λ u v p q. leg-both-ways d u v (leg-at legs u v p q);
     triangle = way-at triangles;
   }
 
-  -- an accepted table is a metric
-  pub accepted-metric : tableRefusal n d ≡ 0 → Metric n d
-  accepted-metric h =
-      let rest = then-zero (legsRefusal n d) (triangleRefusal n d) (then-zero (placesRefusal n) (legsRefusal n d then triangleRefusal n d) h .1) in
-      tested-metric (unless-zero (legsRule n d) 3 (rest .0)) (unless-zero (triangleRule n d) 7 (rest .1))
-
--- "Entries past the counts, the road table's included, are ignored on the way in": the metres between the places decide
+-- the metres between the places decide
 module _ (n : ℕ) (d e : ℕ → ℕ → ℕ) (same : (u v : ℕ) → u < n → v < n → d u v ≡ e u v) where
-  pub same-legs : legsRule n d ≡ legsRule n e
+  pub same-leg-rule : legsRule n d ≡ legsRule n e
   unfolding legRule
-  same-legs =
+  same-leg-rule =
       below-same _ _ n (λ u p. below-same (legRule d u) (legRule e u) n (λ v q. rw (same u v p q, same v u q p)))
 
-  pub same-triangles : triangleRule n d ≡ triangleRule n e
-  same-triangles =
+  pub same-triangle-rule : triangleRule n d ≡ triangleRule n e
+  same-triangle-rule =
       below-same _ _ n (λ u p. below-same _ _ n (λ v q. below-same (wayRule d u v) (wayRule e u v) n (λ w r. rw (same u w p r, same u v p q, same v w q r))))
-
-  pub past-places-ignored : tableRefusal n d ≡ tableRefusal n e
-  past-places-ignored = rw (same-legs, same-triangles)

@@ -7,21 +7,33 @@ use lib.ListN.{getD}
 use Rattle.base.specs.Numbers.{unless, _then_}
 use Rattle.base.specs.Tests.{within, allBelow}
 
--- "d(u,w) the metres from u to w": "one row for each place, one column for each place"
-abbrev pub metresOf : List (List ℕ) → ℕ → ℕ → ℕ
+-- the most places: "there are 1 to 64"
+abbrev pub mostPlaces : ℕ
+mostPlaces = 64
+
+-- the most metres of a leg: "Between different places it is 1 to 1,000,000"
+abbrev pub mostMetres : ℕ
+mostMetres = 1000000
+
+-- "The road table is a square of rows, one row for each place, one column for each place, in metres."
+abbrev pub Table : Type 0
+Table = List (List ℕ)
+
+-- "d(u,w) the metres from u to w"
+abbrev pub metresOf : Table → ℕ → ℕ → ℕ
 metresOf t u w = getD (getD t u []) w 0
 
--- what is read off a table for any two numbers: 0 past its 64 rows and columns
+-- what is read off a table for any two numbers: 0 past its rows and columns
 unfoldable pub entry : (ℕ → ℕ → ℕ) → ℕ → ℕ → ℕ
-entry d u w = cond (ltb u 64 && ltb w 64) (d u w) 0
+entry d u w = cond (ltb u mostPlaces && ltb w mostPlaces) (d u w) 0
 
 -- "Places are numbered from 0; there are 1 to 64."
 abbrev pub placesRule : ℕ → Bool
-placesRule n = within 1 64 n
+placesRule n = within 1 mostPlaces n
 
 -- "Between different places it is 1 to 1,000,000"
 abbrev pub metresRule : ℕ → Bool
-metresRule m = within 1 1000000 m
+metresRule m = within 1 mostMetres m
 
 -- "A place to itself is 0. Between different places it is 1 to 1,000,000, the same both ways."
 unfoldable pub legRule : (ℕ → ℕ → ℕ) → ℕ → ℕ → Bool
@@ -48,13 +60,13 @@ abbrev pub metresRefusal : ℕ → ℕ
 metresRefusal m = unless (metresRule m) 4
 
 -- "metres outside the rules for a leg; in memory also a self-leg not 0 or two directions unequal"
-abbrev pub legsRefusal : ℕ → (ℕ → ℕ → ℕ) → ℕ
-legsRefusal n d = unless (legsRule n d) 4
+abbrev pub legsRefusal : ℕ → Table → ℕ
+legsRefusal n t = unless (legsRule n (metresOf t)) 4
 
 -- "three places break the triangle rule"
-abbrev pub triangleRefusal : ℕ → (ℕ → ℕ → ℕ) → ℕ
-triangleRefusal n d = unless (triangleRule n d) 8
+abbrev pub triangleRefusal : ℕ → Table → ℕ
+triangleRefusal n t = unless (triangleRule n (metresOf t)) 8
 
 -- a table alone, in memory: 3, then 4, then 8
-abbrev pub tableRefusal : ℕ → (ℕ → ℕ → ℕ) → ℕ
-tableRefusal n d = placesRefusal n then legsRefusal n d then triangleRefusal n d
+abbrev pub tableRefusal : ℕ → Table → ℕ
+tableRefusal n t = placesRefusal n then legsRefusal n t then triangleRefusal n t

@@ -7,11 +7,11 @@ ghost use mathlib.Core.Path.{_≡_};
 ghost use Prim.Native.Nat.{_<_, _≤_};
 ghost use Rattle.base.specs.Numbers.{numberOf, unless};
 ghost use Rattle.base.specs.Tests.{allBelow};
-ghost use Rattle.road.specs.Table.{metresOf, legRule, legsRefusal};
+ghost use Rattle.road.specs.Table.{mostPlaces, metresOf, legRule, legsRefusal};
 
 // 4 unless the leg from u to v keeps its rule.
 fn test_leg(table: &Table, u: usize, v: usize) -> Verdict
-    requires { ⌜ (u < 64) × (v < 64) ⌝ }
+    requires { ⌜ (u < mostPlaces) × (v < mostPlaces) ⌝ }
     ensures { λ r. ⌜ numberOf r ≡ unless (legRule (metresOf (now (table .entry))) u v) 4 ⌝ }
 {
     let there = table[u][v];
@@ -29,7 +29,7 @@ fn test_leg(table: &Table, u: usize, v: usize) -> Verdict
 
 // 4 unless every leg from u keeps its rule.
 fn test_from(table: &Table, places: usize, u: usize) -> Verdict
-    requires { ⌜ (places ≤ 64) × (u < 64) ⌝ }
+    requires { ⌜ (places ≤ mostPlaces) × (u < mostPlaces) ⌝ }
     ensures { λ r. ⌜ numberOf r ≡ unless (allBelow places (legRule (metresOf (now (table .entry))) u)) 4 ⌝ }
 {
     let mut v = 0;
@@ -45,8 +45,8 @@ fn test_from(table: &Table, places: usize, u: usize) -> Verdict
 
 // 4 unless every leg keeps its rule.
 pub(crate) fn test(table: &Table, places: usize) -> Verdict
-    requires { ⌜ places ≤ 64 ⌝ }
-    ensures { λ r. ⌜ numberOf r ≡ legsRefusal places (metresOf (now (table .entry))) ⌝ }
+    requires { ⌜ places ≤ mostPlaces ⌝ }
+    ensures { λ r. ⌜ numberOf r ≡ legsRefusal places (now (table .entry)) ⌝ }
 {
     let mut u = 0;
     while u < places {

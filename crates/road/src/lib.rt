@@ -64,7 +64,7 @@ impl Road {
 
     // 3, then 4 unless every leg between the places keeps its rule.
     pub fn test_legs(places: usize, table: Table) -> Verdict
-        ensures { λ r. ⌜ numberOf r ≡ placesRefusal places then legsRefusal places (metresOf table) ⌝ }
+        ensures { λ r. ⌜ numberOf r ≡ placesRefusal places then legsRefusal places table ⌝ }
     {
         let counted = Road::test_places(places);
         let Verdict::Accepted = counted else {
@@ -75,7 +75,7 @@ impl Road {
 
     // 3, then 8 unless every three places keep the triangle rule.
     pub fn test_triangles(places: usize, table: Table) -> Verdict
-        ensures { λ r. ⌜ numberOf r ≡ placesRefusal places then triangleRefusal places (metresOf table) ⌝ }
+        ensures { λ r. ⌜ numberOf r ≡ placesRefusal places then triangleRefusal places table ⌝ }
     {
         let counted = Road::test_places(places);
         let Verdict::Accepted = counted else {
@@ -86,7 +86,7 @@ impl Road {
 
     // The whole test of a table: 3, then 4, then 8.
     pub fn test(places: usize, table: Table) -> Verdict
-        ensures { λ r. ⌜ numberOf r ≡ tableRefusal places (metresOf table) ⌝ }
+        ensures { λ r. ⌜ numberOf r ≡ tableRefusal places table ⌝ }
     {
         let counted = Road::test_places(places);
         let Verdict::Accepted = counted else {

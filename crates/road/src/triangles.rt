@@ -7,7 +7,7 @@ ghost use Prim.Native.Nat.{_+_, _<_, _≤_};
 ghost use lib.Dec.{leb};
 ghost use Rattle.base.specs.Numbers.{numberOf, unless};
 ghost use Rattle.base.specs.Tests.{allBelow};
-ghost use Rattle.road.specs.Table.{metresOf, wayRule, triangleRefusal};
+ghost use Rattle.road.specs.Table.{mostPlaces, metresOf, wayRule, triangleRefusal};
 
 // Whether a way of two legs is at least as long as the road. The rest of the road past the first leg is compared with the
 // second, since the sum of the legs may not fit.
@@ -22,7 +22,7 @@ fn no_shorter(first: u32, second: u32, road: u32) -> bool
 
 // Whether the way from u by v to w is at least as long as the road.
 fn way_keeps(table: &Table, u: usize, v: usize, w: usize) -> bool
-    requires { ⌜ (u < 64) × ((v < 64) × (w < 64)) ⌝ }
+    requires { ⌜ (u < mostPlaces) × ((v < mostPlaces) × (w < mostPlaces)) ⌝ }
     ensures { λ r. ⌜ r ≡ wayRule (metresOf (now (table .entry))) u v w ⌝ }
 {
     no_shorter(table[u][v], table[v][w], table[u][w])
@@ -31,7 +31,7 @@ fn way_keeps(table: &Table, u: usize, v: usize, w: usize) -> bool
 // 8 unless every way from u by v is at least as long as the road. The loop has no way out before its end, so that it can
 // compile to several places at a time.
 fn test_by(table: &Table, places: usize, u: usize, v: usize) -> Verdict
-    requires { ⌜ (places ≤ 64) × ((u < 64) × (v < 64)) ⌝ }
+    requires { ⌜ (places ≤ mostPlaces) × ((u < mostPlaces) × (v < mostPlaces)) ⌝ }
     ensures { λ r. ⌜ numberOf r ≡ unless (allBelow places (wayRule (metresOf (now (table .entry))) u v)) 8 ⌝ }
 {
     let mut kept = true;
@@ -48,7 +48,7 @@ fn test_by(table: &Table, places: usize, u: usize, v: usize) -> Verdict
 
 // 8 unless every way from u by another place is at least as long as the road.
 fn test_from(table: &Table, places: usize, u: usize) -> Verdict
-    requires { ⌜ (places ≤ 64) × (u < 64) ⌝ }
+    requires { ⌜ (places ≤ mostPlaces) × (u < mostPlaces) ⌝ }
     ensures { λ r. ⌜ numberOf r ≡ unless (allBelow places (λ v. allBelow places (wayRule (metresOf (now (table .entry))) u v))) 8 ⌝ }
 {
     let mut v = 0;
@@ -64,8 +64,8 @@ fn test_from(table: &Table, places: usize, u: usize) -> Verdict
 
 // 8 unless every three places keep the triangle rule.
 pub(crate) fn test(table: &Table, places: usize) -> Verdict
-    requires { ⌜ places ≤ 64 ⌝ }
-    ensures { λ r. ⌜ numberOf r ≡ triangleRefusal places (metresOf (now (table .entry))) ⌝ }
+    requires { ⌜ places ≤ mostPlaces ⌝ }
+    ensures { λ r. ⌜ numberOf r ≡ triangleRefusal places (now (table .entry)) ⌝ }
 {
     let mut u = 0;
     while u < places {

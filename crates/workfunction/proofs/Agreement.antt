@@ -3,7 +3,7 @@
 use Prim.Native.Nat.{ℕ, _<_}
 use mathlib.Core.List.{List, [], _∷_, _++_, map, map-congr-left, List·Memᴰ, List·Memᴰ·head, List·Memᴰ·tail, Forall₂·nil, Forall₂·cons}
 use mathlib.Core.Logic.{∥∥₁-elim}
-use mathlib.Core.Path.{_≡_, refl, ap, ap₂, fun-ext}
+use mathlib.Core.Path.{_≡_, refl, ap, fun-ext}
 use lib.ListN.{length, getD, List·getD-eq-default}
 use native.Mathlib.Decide.{decLt}
 use native.Mathlib.Nat.{ℕ-set}
@@ -11,7 +11,7 @@ use native.Mathlib.Omega.{arith}
 use Rattle.workfunction.specs.Lists.{minimum, permutations}
 use Rattle.workfunction.specs.Position.{Position, positions, pairing, distance}
 use Rattle.workfunction.specs.Movement.{Movement, movements, cost, work, floor}
-use Rattle.workfunction.specs.Choice.{preferred, moved, drive, workThen, moveSum, choice}
+use Rattle.workfunction.specs.Choice.{moved, drive, workThen, moveSum, choice}
 use Rattle.workfunction.specs.Serving.{servedBy, served, serve}
 use Rattle.workfunction.proofs.Lists.{in-permutations}
 use Rattle.workfunction.proofs.Movement.{in-movements}
@@ -74,12 +74,15 @@ module _ {n : ℕ} {d e : ℕ → ℕ → ℕ} (same : (u v : ℕ) → u < n →
       -- the sum of a single move
       pub moveSum-same : (s : ℕ) → moveSum d n starts calls stands r s ≡ moveSum e n starts calls stands r s
       unfolding moveSum
-      moveSum-same s = rw (workThen-same s, drive-same s)
+      moveSum-same s = simp (workThen-same s, drive-same)
 
       -- the crane chosen
       pub choice-same : choice d n starts calls stands r ≡ choice e n starts calls stands r
       unfolding choice
-      choice-same = ap₂ (λ sum way. preferred sum way (length stands)) (fun-ext moveSum-same) (fun-ext drive-same)
+      choice-same =
+          let sums : moveSum d n starts calls stands r ≡ moveSum e n starts calls stands r = fun-ext moveSum-same in
+          let drives : drive d stands r ≡ drive e stands r = fun-ext drive-same in
+          cc
 
       -- the figures of the call, by the crane that is sent and by the crane chosen
       pub servedBy-same : (s : ℕ) → servedBy d n starts s calls stands r ≡ servedBy e n starts s calls stands r

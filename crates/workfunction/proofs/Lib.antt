@@ -3,6 +3,7 @@ pub mod Lists
 pub mod Sums
 pub mod Position
 pub mod Movement
+pub mod Keys
 pub mod Choice
 pub mod Plan
 pub mod Flip

@@ -7,9 +7,14 @@ use Rattle.workfunction.specs.Lists.{leastBy}
 use Rattle.workfunction.specs.Position.{distance}
 use Rattle.workfunction.specs.Movement.{work}
 
--- of the numbers below k the one with the least sum; among equals the least drive; then the lowest
-unfoldable pub preferred : (ℕ → ℕ) → (ℕ → ℕ) → ℕ → ℕ
-preferred sum drive k = headD (leastBy drive (leastBy sum (upTo k (λ s. s)))) 0
+-- the elements at which the first key is least, among equals the second, and so on
+unfoldable pub narrowed : List (ℕ → ℕ) → List ℕ → List ℕ
+narrowed [] l = l
+narrowed (key ∷ keys) l = narrowed keys (leastBy key l)
+
+-- of the numbers below k the first by these keys; then the lowest
+unfoldable pub preferred : List (ℕ → ℕ) → ℕ → ℕ
+preferred keys k = headD (narrowed keys (upTo k (λ s. s))) 0
 
 -- "C(s) is the present stands with s at r"
 abbrev pub moved : List ℕ → ℕ → ℕ → List ℕ
@@ -30,7 +35,7 @@ module _ (d : ℕ → ℕ → ℕ) (n : ℕ) (starts calls stands : List ℕ) (r
 
   -- "The crane chosen has the least w(C(s)) + d(s,r); among equals the least d(s,r); then the lowest number."
   unfoldable pub choice : ℕ
-  choice = preferred moveSum (drive d stands r) (length stands)
+  choice = preferred (moveSum ∷ drive d stands r ∷ []) (length stands)
 
   -- A rearrangement is a position C that `Serves` r. "Its sum is w(C), again with r as the last call, plus the distance of
   -- the present stands and C."

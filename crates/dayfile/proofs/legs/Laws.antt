@@ -13,7 +13,7 @@ use native.Mathlib.Omega.{arith}
 use Rattle.base.specs.Lists.{upTo}
 use Rattle.base.proofs.Lists.{length-upTo, getD-padded}
 use Rattle.base.proofs.Tests.{by-order}
-use Rattle.road.specs.Table.{metresOf}
+use Rattle.road.specs.Table.{mostPlaces, metresOf}
 use Rattle.dayfile.specs.declared.codec.Record.{Record}
 use Rattle.dayfile.specs.Legs.{legCount, leg, legRecords, legMetres, between, legRow, legTable}
 
@@ -29,7 +29,7 @@ leg-count-suc (suc w) =
 pub leg-count-more : (v : ℕ) → legCount (v + 1) ≡ legCount v + v
 leg-count-more v = rw add-one (leg-count-suc v)
 
-all-legs : legCount 64 ≡ 2016
+all-legs : legCount mostPlaces ≡ 2016
 unfolding legCount
 all-legs = refl
 
@@ -40,9 +40,9 @@ legs-before v (suc n) p =
     ⊎-elim (λ (e : v ≡ n). omega (arith, ap legCount e, leg-count-suc n)) (λ (l : v < n). omega (arith, legs-before v n l, leg-count-suc n))
     (eq-or-lt-of-le (le-of-suc-le-suc p))
 
-pub leg-count-most : (n : ℕ) → n ≤ 64 → legCount n ≤ 2016
+pub leg-count-most : (n : ℕ) → n ≤ mostPlaces → legCount n ≤ 2016
 leg-count-most n p =
-    ⊎-elim (λ (e : n ≡ 64). omega (arith, ap legCount e, all-legs)) (λ (l : n < 64). omega (arith, legs-before n 64 l, all-legs)) (eq-or-lt-of-le p)
+    ⊎-elim (λ (e : n ≡ mostPlaces). omega (arith, ap legCount e, all-legs)) (λ (l : n < mostPlaces). omega (arith, legs-before n mostPlaces l, all-legs)) (eq-or-lt-of-le p)
 
 module _ (d : ℕ → ℕ → ℕ) where
   pub legRecords-more : (v : ℕ) → legRecords d (v + 1) ≡ legRecords d v ++ upTo v (λ u. leg u v (d u v))
@@ -70,7 +70,7 @@ module _ (rs : List Record) (u v : ℕ) where
 
   pub table-at : (n : ℕ) → u < n → v < n → metresOf (legTable n rs) u v ≡ between rs u v
   unfolding legTable legRow
-  table-at n p q = ap (λ (row : List ℕ). getD row v 0) (getD-padded 64 n _ _ [] u p) ∙ getD-padded 64 n _ 0 0 v q
+  table-at n p q = ap (λ (row : List ℕ). getD row v 0) (getD-padded mostPlaces n _ _ [] u p) ∙ getD-padded mostPlaces n _ 0 0 v q
 
 pub between-both : (rs : List Record) (u v : ℕ) → between rs u v ≡ between rs v u
 between-both rs u v = by-order u v

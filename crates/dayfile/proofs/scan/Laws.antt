@@ -11,23 +11,23 @@ use borrow.Author.Tests.{eqb-true, ltb-true, eq-eqb, ne-eqb}
 use native.Mathlib.Decide.{ℕ-discrete}
 use native.Mathlib.Numerals.{add-one}
 use native.Mathlib.Omega.{arith}
-use Rattle.base.specs.Numbers.{unless, _then_}
+use Rattle.base.specs.Numbers.{unless}
 use Rattle.base.specs.Tests.{within}
 use Rattle.base.proofs.Numbers.{unless-zero, then-zero, first-of, zeros-told}
 use Rattle.base.proofs.Tests.{within-least, within-most}
-use Rattle.road.specs.Table.{metresRefusal}
+use Rattle.road.specs.Table.{mostPlaces, metresRefusal}
 use Rattle.dayfile.specs.declared.codec.Record.{Record}
 use Rattle.dayfile.specs.declared.scan.State.{State}
-use Rattle.dayfile.specs.Day.{stop}
+use Rattle.dayfile.specs.Day.{mostCranes, mostCalls, stop}
 use Rattle.dayfile.specs.Legs.{leg, legCount, none}
 use Rattle.dayfile.proofs.legs.Laws.{leg-count-more}
 use Rattle.dayfile.specs.Scan.{Scan, refused, counted, refuseAt, scan, endRefusal, byKind, start, afterLeg, after, bareRefusal, formRefusal, legRefusal, stopRefusal, craneRefusal, callRefusal, recordRefusal}
 
 -- an accepted record, by its kind
 pub data Accepted (s : State) (r : Record) : Type 0 where
-  a-leg : r ≡ leg (s .first) (s .second) (r .metres) → s .cranes ≡ 0 → s .second < 64 → metresRefusal (r .metres) ≡ 0 → Accepted s r
-  a-crane : r ≡ stop 2 (r .first) → s .first ≡ 0 → s .calls ≡ 0 → r .first < s .second → s .cranes < 16 → Accepted s r
-  a-call : r ≡ stop 3 (r .first) → s .first ≡ 0 → r .first < s .second → 0 < s .cranes → s .calls < 256 → Accepted s r
+  a-leg : r ≡ leg (s .first) (s .second) (r .metres) → s .cranes ≡ 0 → s .second < mostPlaces → metresRefusal (r .metres) ≡ 0 → Accepted s r
+  a-crane : r ≡ stop 2 (r .first) → s .first ≡ 0 → s .calls ≡ 0 → r .first < s .second → s .cranes < mostCranes → Accepted s r
+  a-call : r ≡ stop 3 (r .first) → s .first ≡ 0 → r .first < s .second → 0 < s .cranes → s .calls < mostCalls → Accepted s r
 
 module _ {A : Type 0} (kind : ℕ) (a b c : A) where
   of-leg : kind ≡ 1 → byKind kind a b c ≡ a
@@ -58,10 +58,10 @@ module _ (s : State) (r : Record) where
       let none = first-of (eqb (s .cranes) 0) 2 _ h in
       let first = first-of (eqb (r .first) (s .first)) 2 _ (none .1) in
       let second = first-of (eqb (r .second) (s .second)) 2 _ (first .1) in
-      let below = first-of (ltb (r .second) 64) 2 _ (second .1) in
+      let below = first-of (ltb (r .second) mostPlaces) 2 _ (second .1) in
       let n : r .second ≡ s .second = eqb-true (r .second) (s .second) (second .0) in
       a-leg (leg-form k p g (eqb-true (r .first) (s .first) (first .0)) n) (eqb-true (s .cranes) 0 (none .0))
-      (rw n at (ltb-true (r .second) 64 (below .0))) (below .1)
+      (rw n at (ltb-true (r .second) mostPlaces (below .0))) (below .1)
 
   stopped : (rule : Bool) → stopRefusal s r rule ≡ 0 → (s .first ≡ 0) × ((r .first < s .second) × (rule ≡ true))
   unfolding stopRefusal
@@ -74,15 +74,15 @@ module _ (s : State) (r : Record) where
   unfolding craneRefusal
   craned e h =
       let calls = first-of (eqb (s .calls) 0) 2 _ h in
-      let met = stopped (ltb (s .cranes) 16) (calls .1) in
-      a-crane e (met .0) (eqb-true (s .calls) 0 (calls .0)) (met .1 .0) (ltb-true (s .cranes) 16 (met .1 .1))
+      let met = stopped (ltb (s .cranes) mostCranes) (calls .1) in
+      a-crane e (met .0) (eqb-true (s .calls) 0 (calls .0)) (met .1 .0) (ltb-true (s .cranes) mostCranes (met .1 .1))
 
   called : r ≡ stop 3 (r .first) → callRefusal s r ≡ 0 → Accepted s r
   unfolding callRefusal
   called e h =
       let both = then-zero (stopRefusal s r (ltb 0 (s .cranes))) _ h in
       let met = stopped (ltb 0 (s .cranes)) (both .0) in
-      a-call e (met .0) (met .1 .0) (ltb-true 0 (s .cranes) (met .1 .1)) (ltb-true (s .calls) 256 (unless-zero (ltb (s .calls) 256) 6 (both .1)))
+      a-call e (met .0) (met .1 .0) (ltb-true 0 (s .cranes) (met .1 .1)) (ltb-true (s .calls) mostCalls (unless-zero (ltb (s .calls) mostCalls) 6 (both .1)))
 
   pub accepted : recordRefusal s r ≡ 0 → Accepted s r
   unfolding recordRefusal formRefusal
@@ -125,9 +125,9 @@ module _ (s : State) (r : Record) where
 -- the numbers of a scan after i records
 pub record Progress (s : State) (i : ℕ) : Type 0 where
   pub ordered : s .first < s .second
-  pub places : s .second ≤ 64
-  pub cranes : s .cranes ≤ 16
-  pub calls : s .calls ≤ 256
+  pub places : s .second ≤ mostPlaces
+  pub cranes : s .cranes ≤ mostCranes
+  pub calls : s .calls ≤ mostCalls
   pub idle : s .cranes ≡ 0 → s .calls ≡ 0
   pub index : i ≡ legCount (s .second) + s .first + s .cranes + s .calls
 

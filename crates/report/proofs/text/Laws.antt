@@ -15,6 +15,7 @@ use native.Mathlib.Omega.{arith}
 use Rattle.base.specs.Lists.{splice}
 use Rattle.base.proofs.Lists.{splice-none, splice-on}
 use Rattle.io.specs.Digits.{digits, Fewest}
+use Rattle.dayfile.specs.Day.{mostCalls}
 use Rattle.report.specs.Text.{upToDigits, decimal, callLine, lastLine, refusedLine, callLines, dayText}
 use Rattle.report.specs.Put.{Put}
 
@@ -116,8 +117,8 @@ module _ (f g h : ℕ → ℕ) where
   length-callLines zero = zero-le
   length-callLines (suc m) = rw length-append (omega (arith, length-callLines m, length-callLine m (f m) (g m) (h m)))
 
-  -- the text of a day of 256 calls fits
-  pub day-fits : (m driven floor : ℕ) → m ≤ 256 → length (dayText m f g h driven floor) ≤ 32768
+  -- the text of a day fits
+  pub day-fits : (m driven floor : ℕ) → m ≤ mostCalls → length (dayText m f g h driven floor) ≤ 32768
   unfolding dayText
   day-fits m driven floor few = rw length-append (omega (arith, length-callLines m, length-lastLine driven floor))
 

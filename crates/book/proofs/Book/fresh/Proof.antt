@@ -4,7 +4,7 @@ use Prim.Native.Nat.{ℕ}
 use mathlib.Core.Path.{_≡_}
 use borrow.Author.Needs.{needs}
 use Rattle.base.proofs.Numbers.{zeros-told, accepts, refused-number}
-use Rattle.road.specs.Table.{metresOf}
+use Rattle.road.specs.Table.{Table}
 use Rattle.dayfile.specs.declared.Day.{Day}
 use Rattle.dayfile.specs.Day.{dayRefusal}
 use Rattle.dayfile.proofs.Limits.{day-tested}
@@ -13,18 +13,18 @@ use Rattle.book.specs.Book.{freshBook, emptyBook, Opened, freshOf}
 use Rattle.book.proofs.Book.fresh.Statement.{statement}
 use Rattle.book.proofs.Book.fresh.Tie as tie
 
-refused : (day : Day) (d : ℕ → ℕ → ℕ) (n : ℕ) (book : Book) → n ≡ dayRefusal day d → (n ≡ 0 → ⊥) → book ≡ emptyBook
-    → _≡_ {A = Opened} (record { number = n; book = book }) (freshOf day d)
+refused : (day : Day) (t : Table) (n : ℕ) (book : Book) → n ≡ dayRefusal day t → (n ≡ 0 → ⊥) → book ≡ emptyBook
+    → _≡_ {A = Opened} (record { number = n; book = book }) (freshOf day t)
 unfolding freshOf
-refused day d n book e h q = rw (← e, q) (zeros-told n _ (λ m. record { number = m; book = emptyBook }) h)
+refused day t n book e h q = rw (← e, q) (zeros-told n _ (λ m. record { number = m; book = emptyBook }) h)
 
-opened : (day : Day) (d : ℕ → ℕ → ℕ) (book : Book) → dayRefusal day d ≡ 0 → book ≡ freshBook (day .cranes) (day .starts)
-    → _≡_ {A = Opened} (record { number = 0; book = book }) (freshOf day d)
+opened : (day : Day) (t : Table) (book : Book) → dayRefusal day t ≡ 0 → book ≡ freshBook (day .cranes) (day .starts)
+    → _≡_ {A = Opened} (record { number = 0; book = book }) (freshOf day t)
 unfolding freshOf
-opened day d book e q = rw (e, q)
+opened day t book e q = rw (e, q)
 
 -- what the test of the day tells once it accepted
-tested : (c : tie.After-enum-told) → let a = c .before .before .before .args in dayRefusal (a .day) (metresOf (a .table)) ≡ 0
+tested : (c : tie.After-enum-told) → let a = c .before .before .before .args in dayRefusal (a .day) (a .table) ≡ 0
 tested c = accepts _ _ (c .enum-told .given .1) (c .before .before .test .ensures)
 
 test-requires : tie.Need-test-requires

@@ -1,111 +1,103 @@
 -- `book::Book::test` meets its contract: each refusal is handed up, and where none applies the next test decides.
 -- Assumes nothing.
-use Prim.Native.Nat.{ℕ, zero, suc, _<_}
+use Prim.Native.Nat.{ℕ, _<_}
 use mathlib.Core.Bool.{true}
-use mathlib.Core.Path.{_≡_, _∙_}
+use mathlib.Core.Path.{_≡_, sym, _∙_}
 use borrow.Author.Needs.{needs}
 use lib.ListN.{length}
 use native.Mathlib.Nat.{le-trans}
 use native.Mathlib.Omega.{arith}
-use Rattle.base.specs.Numbers.{_then_}
-use Rattle.base.proofs.Numbers.{accepts, holds, unless-zero, first-of, asked-again, goes-on, handed-up}
-use Rattle.road.specs.Table.{metresOf, entry, legsRefusal, triangleRefusal}
+use Rattle.base.specs.Numbers.{numberOf, _then_}
+use Rattle.base.proofs.Numbers.{accepts, holds, unless-zero, asked-again, goes-on, handed-up}
+use Rattle.road.specs.Table.{Table, mostPlaces, metresOf, entry, triangleRefusal}
 use Rattle.road.proofs.Table.{entry-in}
-use Rattle.dayfile.specs.Day.{stopsRule, countsRefusal, stopsRefusal}
-use Rattle.dayfile.proofs.Limits.{CountsTested, counts-tested, places-accepted}
+use Rattle.dayfile.specs.Day.{stopsRule, stopsRefusal, placedRefusal}
+use Rattle.dayfile.proofs.Limits.{Placed, day-placed, places-accepted}
 use Rattle.workfunction.specs.Plan.{planRule, legCost}
+use Rattle.workfunction.proofs.Plan.{plan-facts}
 use Rattle.book.specs.declared.Book.{Book}
-use Rattle.book.specs.Book.{startsOf, standsOf, requestsOf, stopsOf, follower, weightsRefusal, bookRefusal}
-use Rattle.book.proofs.legs.Laws.{same-costs}
-use Rattle.book.proofs.weights.Laws.{over-legs}
+use Rattle.book.specs.Book.{mostStops, startsOf, standsOf, requestsOf, stopsOf, follower, weightsRefusal, bookDay, bookRefusal}
+use Rattle.book.proofs.Places.{same-costs}
+use Rattle.book.proofs.Sound.{Fits, fit, starts-long, stands-long, requests-long}
+use Rattle.book.proofs.Vouching.{over-legs}
 use Rattle.book.proofs.Book.test.Statement.{statement}
 use Rattle.book.proofs.Book.test.Tie as tie
 
--- the tests 5 as one, and one by one before another test
-abbrev stopsTest : Book → ℕ → ℕ
-stopsTest book n = stopsRefusal n (startsOf book) then stopsRefusal n (requestsOf book) then stopsRefusal n (standsOf book)
-
-abbrev fromStopsTest : Book → ℕ → ℕ → ℕ
-fromStopsTest book n t = stopsRefusal n (startsOf book) then stopsRefusal n (requestsOf book) then stopsRefusal n (standsOf book) then t
-
-one-by-one : (book : Book) (m t n : ℕ) → n ≡ (stopsTest book m then t) → n ≡ fromStopsTest book m t
-one-by-one book m t n = apart (stopsRefusal m (startsOf book)) (stopsRefusal m (requestsOf book)) (stopsRefusal m (standsOf book))
-  where
-    apart : (r s u : ℕ) → n ≡ ((r then s then u) then t) → n ≡ (r then s then u then t)
-    apart zero zero u h = h
-    apart zero (suc s) u h = h
-    apart (suc r) s u h = h
-
 -- over what is read off the table as over its metres
-by-reading : (book : Book) (n : ℕ) (d : ℕ → ℕ → ℕ) → CountsTested n (book .cranes) (book .calls) → stopsTest book n ≡ 0
+by-reading : (book : Book) (n : ℕ) (t : Table) → Placed (bookDay book n) t → stopsRule n (standsOf book) ≡ true
     → planRule (book .cranes) (stopsOf book) (follower (book .plan)) ≡ true
-    → weightsRefusal (book .cranes) (stopsOf book) (book .plan) (book .weights) (legCost (entry d) (startsOf book) (requestsOf book) (standsOf book))
-    ≡ weightsRefusal (book .cranes) (stopsOf book) (book .plan) (book .weights) (legCost d (startsOf book) (requestsOf book) (standsOf book))
-by-reading book n d counts stopped planned =
-    let starts = first-of (stopsRule n (startsOf book)) 4 _ stopped in
-    let requests = first-of (stopsRule n (requestsOf book)) 4 _ (starts .1) in
-    let stands = unless-zero (stopsRule n (standsOf book)) 4 (requests .1) in
-    let most : (u : ℕ) → u < n → u < 64 = λ u h. le-trans h (counts .places) in
+    → weightsRefusal (book .cranes) (stopsOf book) (book .plan) (book .weights)
+    (legCost (entry (metresOf t)) (startsOf book) (requestsOf book) (standsOf book))
+    ≡ weightsRefusal (book .cranes) (stopsOf book) (book .plan) (book .weights)
+    (legCost (metresOf t) (startsOf book) (requestsOf book) (standsOf book))
+by-reading book n t day stands planned =
+    let most : (u : ℕ) → u < n → u < mostPlaces = λ u h. le-trans h (day .counts .places) in
     over-legs (book .cranes) (stopsOf book) (book .plan) (book .weights) _ _ planned
-    (λ p b h l. same-costs (counts .place) (startsOf book) (requestsOf book) (standsOf book) (starts .0) (requests .0) stands (entry d) d
-    (λ u v h l. entry-in d u v (most u h) (most v l)) p b)
+    (λ p b h l. same-costs (day .counts .place) (startsOf book) (requestsOf book) (standsOf book) (day .starts) (day .requests) stands
+    (entry (metresOf t)) (metresOf t) (λ u v h l. entry-in (metresOf t) u v (most u h) (most v l)) p b)
 
--- what the numbers tested first tell
-counted-so : (c : tie.After-enum-told) → let a = c .before .before .before .before .args in CountsTested (a .places) (a .self .cranes) (a .self .calls)
-counted-so c = counts-tested _ _ _ (accepts _ _ (c .enum-told .given .1) (c .before .before .test-counts .ensures))
+-- the places of the code from which the others are looked back upon
+abbrev start : tie.After-enum-told → tie.Start
+start c = c .before .before .before .before .before .before .before .before
 
--- the tests from the first on, and after them t
-abbrev fromCounts : Book → ℕ → ℕ → ℕ
-fromCounts book n t = countsRefusal n (book .cranes) (book .calls) then t
+abbrev first : tie.After-enum-told3 → tie.After-enum-told
+first c = c .before .before .before .before
 
-abbrev fromLegs : Book → ℕ → (ℕ → ℕ → ℕ) → ℕ → ℕ
-fromLegs book n d t = fromCounts book n (legsRefusal n d then t)
+abbrev second : tie.After-enum-told5 → tie.After-enum-told3
+second c = c .before .before .before
 
-abbrev fromStops : Book → ℕ → (ℕ → ℕ → ℕ) → ℕ → ℕ
-fromStops book n d t = fromLegs book n d (fromStopsTest book n t)
+abbrev third : tie.After-enum-told7 → tie.After-enum-told5
+third c = c .before .before .before .before
 
-abbrev fromTriangles : Book → ℕ → (ℕ → ℕ → ℕ) → ℕ → ℕ
-fromTriangles book n d t = fromStops book n d (triangleRefusal n d then t)
+plan-long : (s : tie.Start) → length (s .args .self .plan) ≡ mostStops
+plan-long s = search needs
+
+weights-long : (s : tie.Start) → length (s .args .self .weights) ≡ mostStops
+weights-long s = search needs
+
+-- what the tests that accepted tell
+day : (c : tie.After-enum-told) → let a = start c .args in Placed (bookDay (a .self) (a .places)) (a .t3)
+day c = day-placed _ _ (accepts _ _ (c .enum-told .given .1) (c .before .before .test-placed .ensures))
+
+fits : (c : tie.After-enum-told) → Fits (start c .args .self)
+fits c =
+    let counts = day c .counts in
+    fit (record { starts = search needs; stands = search needs; requests = search needs }) (counts .cranes) (counts .calls)
+
+stand : (c : tie.After-enum-told3) → let a = start (first c) .args in stopsRule (a .places) (standsOf (a .self)) ≡ true
+stand c = unless-zero _ 4 (accepts _ _ (c .enum-told3 .given .1) (c .before .before .test-stops .ensures))
+
+plan : (c : tie.After-enum-told7) → let b = start (first (second (third c))) .args .self in planRule (b .cranes) (stopsOf b) (follower (b .plan)) ≡ true
+plan c = holds _ _ 8 (c .enum-told7 .given .1) (c .before .before .test .ensures)
+
+-- the tests from the first on, and after them r
+abbrev fromPlaced : Book → ℕ → Table → ℕ → ℕ
+fromPlaced book n t r = placedRefusal (bookDay book n) t then r
+
+abbrev fromStands : Book → ℕ → Table → ℕ → ℕ
+fromStands book n t r = fromPlaced book n t (stopsRefusal n (standsOf book) then r)
+
+abbrev fromTriangles : Book → ℕ → Table → ℕ → ℕ
+fromTriangles book n t r = fromStands book n t (triangleRefusal n t then r)
 
 -- where the tests so far accepted, the next decides
-counts : (c : tie.After-enum-told) (t n : ℕ) → n ≡ t
-    → let a = c .before .before .before .before .args in n ≡ fromCounts (a .self) (a .places) t
-counts c t n q = goes-on _ _ t n (c .enum-told .given .1) (c .before .before .test-counts .ensures) q
+placed : (c : tie.After-enum-told) (r n : ℕ) → n ≡ r → let a = start c .args in n ≡ fromPlaced (a .self) (a .places) (a .t3) r
+placed c r n q = goes-on _ _ r n (c .enum-told .given .1) (c .before .before .test-placed .ensures) q
 
-legs : (c : tie.After-enum-told3) (t n : ℕ) → n ≡ t
-    → let a = c .before .before .before .before .before .before .before .args in n ≡ fromLegs (a .self) (a .places) (metresOf (a .t3)) t
-legs c t n q =
-    let k = c .before .before .before in
-    counts k _ n
-    (goes-on _ _ t n (c .enum-told3 .given .1) (asked-again _ _ _ (places-accepted _ _ _ (counted-so k)) (c .before .before .test-legs .ensures)) q)
+stands : (c : tie.After-enum-told3) (r n : ℕ) → n ≡ r → let a = start (first c) .args in n ≡ fromStands (a .self) (a .places) (a .t3) r
+stands c r n q = placed (first c) _ n (goes-on _ _ r n (c .enum-told3 .given .1) (c .before .before .test-stops .ensures) q)
 
-stops : (c : tie.After-enum-told5) (t n : ℕ) → n ≡ t
-    → let a = c .before .before .before .before .before .before .before .before .before .before .args in
-    n ≡ fromStops (a .self) (a .places) (metresOf (a .t3)) t
-stops c t n q =
-    let l = c .before .before .before in
-    let a = l .before .before .before .before .before .before .before .args in
-    legs l _ n
-    (one-by-one (a .self) _ t n (goes-on _ _ t n (c .enum-told5 .given .1) (c .before .before .test-stops .ensures) q))
+-- the triangle rule, the places being accepted
+ways : (c : tie.After-test-triangles)
+    → let f = first (c .before) in let a = start f .args in numberOf (c .test-triangles .result) ≡ triangleRefusal (a .places) (a .t3)
+ways c = asked-again _ _ _ (places-accepted _ _ _ (day (first (c .before)) .counts)) (c .test-triangles .ensures)
 
-triangles : (c : tie.After-enum-told7) (t n : ℕ) → n ≡ t
-    → let a = c .before .before .before .before .before .before .before .before .before .before .before .before .before .args in
-    n ≡ fromTriangles (a .self) (a .places) (metresOf (a .t3)) t
-triangles c t n q =
-    let s = c .before .before .before in
-    let k = s .before .before .before .before .before .before in
-    stops s _ n
-    (goes-on _ _ t n (c .enum-told7 .given .1) (asked-again _ _ _ (places-accepted _ _ _ (counted-so k)) (c .before .before .test-triangles .ensures)) q)
+triangles : (c : tie.After-enum-told5) (r n : ℕ) → n ≡ r
+    → let a = start (first (second c)) .args in n ≡ fromTriangles (a .self) (a .places) (a .t3) r
+triangles c r n q = stands (second c) _ n (goes-on _ _ r n (c .enum-told5 .given .1) (ways (c .before .before)) q)
 
--- what the test of the plan tells
-planned-so : (c : tie.After-enum-told9)
-    → let t = c .before .before .before .before in
-    let a = t .before .before .before .before .before .before .before .before .before .before .before .before .before .args .self in
-    planRule (a .cranes) (stopsOf a) (follower (a .plan)) ≡ true
-planned-so c = holds _ _ 8 (c .enum-told9 .given .1) (c .before .before .test .ensures)
-
-test-counts-requires : tie.Need-test-counts-requires
-test-counts-requires c κs = search needs
+test-placed-requires : tie.Need-test-placed-requires
+test-placed-requires c κs = search needs
 
 enum-told : tie.Need-enum-told
 enum-told c = search needs
@@ -117,10 +109,16 @@ returns : tie.Need-returns
 unfolding bookRefusal
 returns c =
     let e = c .enum-told2 .given in
-    handed-up _ (e .0 .0) (e .1) _ _ (c .before .before .test-counts .ensures)
+    handed-up _ (e .0 .0) (e .1) _ _ (c .before .before .test-placed .ensures)
 
-test-legs-requires : tie.Need-test-legs-requires
-test-legs-requires c κs = search needs
+array-share-prefix-stands : tie.Need-array-share-prefix-stands
+array-share-prefix-stands c = fits c .stands
+
+slice-aggregate-test-stops : tie.Need-slice-aggregate-test-stops
+slice-aggregate-test-stops c = sym (stands-long (fits (c .before)))
+
+test-stops-requires : tie.Need-test-stops-requires
+test-stops-requires c κs = search needs
 
 enum-told-3 : tie.Need-enum-told-3
 enum-told-3 c = search needs
@@ -132,11 +130,10 @@ returns-2 : tie.Need-returns-2
 unfolding bookRefusal
 returns-2 c =
     let e = c .enum-told4 .given in
-    let k = c .before .before .before in
-    counts k _ _ (handed-up _ (e .0 .0) (e .1) _ _ (asked-again _ _ _ (places-accepted _ _ _ (counted-so k)) (c .before .before .test-legs .ensures)))
+    placed (c .before .before .before .before) _ _ (handed-up _ (e .0 .0) (e .1) _ _ (c .before .before .test-stops .ensures))
 
-test-stops-requires : tie.Need-test-stops-requires
-test-stops-requires c κs = let k = counted-so (c .before .before .before) in (k .cranes, k .calls)
+test-triangles-requires : tie.Need-test-triangles-requires
+test-triangles-requires c κs = search needs
 
 enum-told-5 : tie.Need-enum-told-5
 enum-told-5 c = search needs
@@ -148,13 +145,18 @@ returns-3 : tie.Need-returns-3
 unfolding bookRefusal
 returns-3 c =
     let e = c .enum-told6 .given in
-    let l = c .before .before .before in
-    let a = l .before .before .before .before .before .before .before .args in
-    legs l _ _
-    (one-by-one (a .self) _ _ _ (handed-up _ (e .0 .0) (e .1) _ _ (c .before .before .test-stops .ensures)))
+    stands (c .before .before .before) _ _ (handed-up _ (e .0 .0) (e .1) _ _ (ways (c .before .before)))
 
-test-triangles-requires : tie.Need-test-triangles-requires
-test-triangles-requires c κs = search needs
+add-stops : tie.Need-add-stops
+add-stops c = let counts = day (first (second c)) .counts in search needs
+
+slice-aggregate-test : tie.Need-slice-aggregate-test
+slice-aggregate-test c = search needs
+
+test-requires : tie.Need-test-requires
+test-requires c κs =
+    let f = first (second (c .before)) in
+    omega (arith, plan-long (start f), day f .counts)
 
 enum-told-7 : tie.Need-enum-told-7
 enum-told-7 c = search needs
@@ -166,80 +168,85 @@ returns-4 : tie.Need-returns-4
 unfolding bookRefusal
 returns-4 c =
     let e = c .enum-told8 .given in
-    let s = c .before .before .before in
-    let k = s .before .before .before .before .before .before in
-    stops s _ _ (handed-up _ (e .0 .0) (e .1) _ _ (asked-again _ _ _ (places-accepted _ _ _ (counted-so k)) (c .before .before .test-triangles .ensures)))
+    triangles (c .before .before .before .before) _ _ (handed-up _ (e .0 .0) (e .1) _ _ (c .before .before .test .ensures))
 
-add-test : tie.Need-add-test
-add-test c =
-    let k = counted-so (c .before .before .before .before .before .before .before .before .before) in
-    search needs
+array-share-prefix-starts : tie.Need-array-share-prefix-starts
+array-share-prefix-starts c = fits (first (second (third (c .before)))) .starts
 
-slice-aggregate-test : tie.Need-slice-aggregate-test
-slice-aggregate-test c = search needs
+slice-aggregate-test-2 : tie.Need-slice-aggregate-test-2
+slice-aggregate-test-2 c = sym (starts-long (fits (first (second (third (c .before .before))))))
 
-test-requires : tie.Need-test-requires
-test-requires c κs =
-    let k = c .before .before .before .before .before .before .before .before .before .before in
-    let len : length (k .before .before .before .before .args .self .plan) ≡ 272 = search needs in
-    omega (arith, len, counted-so k)
+array-share-prefix-requests : tie.Need-array-share-prefix-requests
+array-share-prefix-requests c = fits (first (second (third (c .before .before)))) .requests
 
-enum-told-9 : tie.Need-enum-told-9
-enum-told-9 c = search needs
+slice-aggregate-test-3 : tie.Need-slice-aggregate-test-3
+slice-aggregate-test-3 c = sym (requests-long (fits (first (second (third (c .before .before .before))))))
 
-enum-told-10 : tie.Need-enum-told-10
-enum-told-10 c = search needs
+array-share-prefix-stands-2 : tie.Need-array-share-prefix-stands-2
+array-share-prefix-stands-2 c = fits (first (second (third (c .before .before .before)))) .stands
+
+slice-aggregate-test-4 : tie.Need-slice-aggregate-test-4
+slice-aggregate-test-4 c = sym (stands-long (fits (first (second (third (c .before .before .before .before))))))
+
+slice-aggregate-test-5 : tie.Need-slice-aggregate-test-5
+slice-aggregate-test-5 c = sym (plan-long (start (first (second (third (c .before .before .before .before .before))))))
+
+slice-aggregate-test-6 : tie.Need-slice-aggregate-test-6
+slice-aggregate-test-6 c = sym (weights-long (start (first (second (third (c .before .before .before .before .before .before))))))
+
+test-requires-2 : tie.Need-test-requires-2
+test-requires-2 c κs =
+    let p = c .before .before .before .before .before .before in
+    let f = first (second (third p)) in
+    record {
+      most = omega (arith, day f .counts);
+      planned = omega (arith, plan-long (start f), day f .counts);
+      weighed = omega (arith, weights-long (start f), day f .counts);
+      below = plan-facts _ _ _ (plan p) .below;
+    }
 
 returns-5 : tie.Need-returns-5
 unfolding bookRefusal
 returns-5 c =
-    let e = c .enum-told10 .given in
-    triangles (c .before .before .before .before) _ _ (handed-up _ (e .0 .0) (e .1) _ _ (c .before .before .test .ensures))
-
-test-weights-requires : tie.Need-test-weights-requires
-test-weights-requires c κs =
-    let p = c .before in
-    let k = counted-so (p .before .before .before .before .before .before .before .before .before .before .before .before .before) in
-    (k .cranes, (k .calls, planned-so p))
-
-returns-6 : tie.Need-returns-6
-unfolding bookRefusal
-returns-6 c =
-    let p = c .before .before in
-    let t = p .before .before .before .before in
-    let s = t .before .before .before in
-    let k = s .before .before .before .before .before .before in
-    let a = k .before .before .before .before .args in
-    let stopped = accepts _ _ (s .enum-told5 .given .1) (s .before .before .test-stops .ensures) in
+    let p = c .before .before .before .before .before .before .before in
+    let t = third p in
+    let f = first (second t) in
+    let a = start f .args in
     triangles t _ _
-    (goes-on _ _ _ _ (p .enum-told9 .given .1) (p .before .before .test .ensures)
-    (c .test-weights .ensures ∙ by-reading (a .self) _ (metresOf (a .t3)) (counted-so k) stopped (planned-so p)))
+    (goes-on _ _ _ _ (p .enum-told7 .given .1) (p .before .before .test .ensures)
+    (rw (starts-long (fits f)) at (c .test2 .ensures) ∙ by-reading (a .self) _ (a .t3) (day f) (stand (second t)) (plan p)))
 
 pub test-spec : {M : Type 1} → statement M
 test-spec =
     tie.close
     (tie.spec
-    test-counts-requires
+    test-placed-requires
     enum-told
     enum-told-2
     returns
-    test-legs-requires
+    array-share-prefix-stands
+    slice-aggregate-test-stops
+    test-stops-requires
     enum-told-3
     enum-told-4
     returns-2
-    test-stops-requires
+    test-triangles-requires
     enum-told-5
     enum-told-6
     returns-3
-    test-triangles-requires
+    add-stops
+    slice-aggregate-test
+    test-requires
     enum-told-7
     enum-told-8
     returns-4
-    add-test
-    slice-aggregate-test
-    test-requires
-    enum-told-9
-    enum-told-10
-    returns-5
-    test-weights-requires
-    returns-6)
+    array-share-prefix-starts
+    slice-aggregate-test-2
+    array-share-prefix-requests
+    slice-aggregate-test-3
+    array-share-prefix-stands-2
+    slice-aggregate-test-4
+    slice-aggregate-test-5
+    slice-aggregate-test-6
+    test-requires-2
+    returns-5)

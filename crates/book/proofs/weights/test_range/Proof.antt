@@ -10,7 +10,7 @@ use Rattle.base.specs.Numbers.{numberOf, unless}
 use Rattle.base.proofs.Numbers.{holds, stops}
 use Rattle.base.proofs.Tests.{Passed, begun, turned, ended, below-fails}
 use Rattle.book.specs.Book.{weight, weightRule}
-use Rattle.book.proofs.weights.Laws.{read-back}
+use Rattle.book.proofs.Vouching.{read-back}
 use Rattle.book.proofs.weights.test_range.Statement.{statement}
 use Rattle.book.proofs.weights.test_range.Tie as tie
 

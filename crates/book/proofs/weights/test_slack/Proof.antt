@@ -6,7 +6,7 @@ use lib.IntN.{pos, _-ℤ_}
 use lib.Signed.{leZ}
 use mir.Syntax.{w64}
 use mir.Val.{ofZ}
-use Rattle.book.proofs.weights.Laws.{difference, weights-fit, weights-less, legs-fit, legs-less}
+use Rattle.book.proofs.Vouching.{difference, weights-fit, weights-less, legs-fit, legs-less}
 use Rattle.book.proofs.weights.test_slack.Statement.{statement}
 use Rattle.book.proofs.weights.test_slack.Tie as tie
 

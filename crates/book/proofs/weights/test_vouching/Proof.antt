@@ -5,24 +5,26 @@ use mathlib.Core.Bool.{Bool}
 use mathlib.Core.List.{List}
 use borrow.Author.Needs.{needs}
 use lib.IntN.{ℤ}
+use lib.ListN.{length}
 use Rattle.base.specs.Tests.{allBelow}
-use Rattle.base.proofs.Numbers.{holds, stops}
-use Rattle.base.proofs.Tests.{Passed, begun, turned, ended, below-fails}
-use Rattle.workfunction.specs.Plan.{vouchAt, vouchRule}
+use Rattle.base.proofs.Numbers.{turns, stops-below}
+use Rattle.base.proofs.Tests.{Passed, begun, ended}
+use Rattle.road.specs.Table.{Table, metresOf, entry}
+use Rattle.workfunction.specs.Plan.{vouchAt, vouchRule, legCost}
 use Rattle.book.specs.Book.{follower, weight}
-use Rattle.book.specs.Legs.{legAt}
 use Rattle.book.proofs.weights.test_vouching.Statement.{statement}
 use Rattle.book.proofs.weights.test_vouching.Tie as tie
 
 -- what the loop tests of each stop
-abbrev rule : ℕ → ℕ → List ℕ → List ℤ → List ℕ → ℕ → Bool
-rule cranes stops plan weights costs = λ p. allBelow stops (vouchAt cranes (follower plan) (legAt costs) (weight weights) p)
+abbrev rule : Table → List ℕ → List ℕ → List ℕ → ℕ → List ℕ → List ℤ → ℕ → Bool
+rule table starts calls stands stops plan weights = λ p.
+    allBelow stops (vouchAt (length starts) (follower plan) (legCost (entry (metresOf table)) starts calls stands) (weight weights) p)
 
 abbrev Inv-loop : tie.InvT-loop
-Inv-loop cranes stops plan weights costs p₀ p = Passed stops (rule cranes stops plan weights costs) p
+Inv-loop table starts calls stands stops plan weights p₀ p = Passed stops (rule table starts calls stands stops plan weights) p
 
 abbrev μ-loop : tie.MeasureT-loop
-μ-loop cranes stops plan weights costs p₀ p = stops - p
+μ-loop table starts calls stands stops plan weights p₀ p = stops - p
 
 loop-holds : tie.Need-loop-holds Inv-loop μ-loop
 loop-holds c = begun _ _
@@ -39,12 +41,8 @@ enum-told-2 c = search needs
 returns : tie.Need-returns Inv-loop μ-loop
 unfolding vouchRule
 returns c =
-    let l = c .before .before .before .before in
-    let a = l .before .before .before .args in
     let e = c .enum-told2 .given in
-    stops _ (e .0 .0) (e .1) _ _ 10 (c .before .before .test-from .ensures)
-    (below-fails (rule (a .cranes) (a .stops) (a .plan .now) (a .weights .now) (a .costs .now)) (a .stops) (l .loop .p)
-    (c .before .before .before .loop-test .taken))
+    stops-below _ (e .0 .0) (e .1) _ _ 10 _ (c .before .before .test-from .ensures) (c .before .before .before .loop-test .taken)
 
 add-p : tie.Need-add-p Inv-loop μ-loop
 add-p c = search needs
@@ -54,9 +52,8 @@ loop-less c = search needs
 
 loop-again : tie.Need-loop-again Inv-loop μ-loop
 loop-again c =
-    let l = c .before .before .before .before in
-    turned _ _ (l .loop .p) (l .loop .inv) (c .before .before .before .loop-test .taken)
-    (holds _ _ 9 (c .enum-told .given .1) (c .before .before .test-from .ensures))
+    let i = c .before .before .before in
+    turns _ _ _ 9 _ (c .enum-told .given .1) (c .before .before .test-from .ensures) (i .loop-test .taken) (i .before .loop .inv)
 
 returns-2 : tie.Need-returns-2 Inv-loop μ-loop
 unfolding vouchRule

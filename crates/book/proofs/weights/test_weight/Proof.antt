@@ -1,7 +1,7 @@
 -- `book::weights::test_weight` meets its contract: its branches are the two ends of the range.
 -- Assumes nothing.
 use borrow.Author.Needs.{needs}
-use Rattle.book.proofs.weights.Laws.{weight-low, weight-high, weight-within}
+use Rattle.book.proofs.Vouching.{weight-low, weight-high, weight-within}
 use Rattle.book.proofs.weights.test_weight.Statement.{statement}
 use Rattle.book.proofs.weights.test_weight.Tie as tie
 

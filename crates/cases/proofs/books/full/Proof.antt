@@ -1,17 +1,18 @@
--- `cases::books::full` is safe: the loop keeps the plan's length.
+-- `cases::books::full` is safe: the loop goes through the plan.
 -- Assumes nothing.
-use Prim.Native.Nat.{_-_}
-use mathlib.Core.Path.{_≡_}
-use lib.ListN.{length}
+use Prim.Native.Nat.{_-_, _≤_}
 use borrow.Author.Needs.{needs}
+use lib.ListN.{length}
+use mathlib.Core.Path.{_≡_}
+use Rattle.book.specs.Book.{mostStops}
 use Rattle.cases.proofs.books.full.Statement.{statement}
 use Rattle.cases.proofs.books.full.Tie as tie
 
 abbrev Inv-loop : tie.InvT-loop
-Inv-loop weight plan₀ p₀ plan p = length plan ≡ 272
+Inv-loop weight cranes calls plan₀ p₀ plan p = length plan ≡ mostStops
 
 abbrev μ-loop : tie.MeasureT-loop
-μ-loop weight plan₀ p₀ plan p = 272 - p
+μ-loop weight cranes calls plan₀ p₀ plan p = mostStops - p
 
 loop-holds : tie.Need-loop-holds Inv-loop μ-loop
 loop-holds c = search needs
@@ -34,6 +35,12 @@ loop-less c = search needs
 loop-again : tie.Need-loop-again Inv-loop μ-loop
 loop-again c = search needs
 
+cast-plan : tie.Need-cast-plan Inv-loop μ-loop
+cast-plan c = search needs
+
+array-write-plan-2 : tie.Need-array-write-plan-2 Inv-loop μ-loop
+array-write-plan-2 c = search needs
+
 returns : tie.Need-returns Inv-loop μ-loop
 returns c = search needs
 
@@ -50,4 +57,6 @@ full-spec =
     add-p
     loop-less
     loop-again
+    cast-plan
+    array-write-plan-2
     returns)

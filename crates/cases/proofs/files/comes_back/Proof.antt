@@ -1,7 +1,10 @@
--- `cases::files::comes_back` is safe: no more is compared than the buffer holds.
+-- `cases::files::comes_back` is safe: no more is read than was written.
 -- Assumes nothing.
-use mathlib.Core.Path.{sym}
+use borrow.Author.Needs.{needs}
+use lib.ListN.{length}
 use lib.Seq.{length-take-le}
+use mathlib.Core.Path.{_≡_, sym}
+use native.Mathlib.Omega.{arith}
 use borrow.Author.Needs.{needs}
 use Rattle.cases.proofs.files.comes_back.Statement.{statement}
 use Rattle.cases.proofs.files.comes_back.Tie as tie

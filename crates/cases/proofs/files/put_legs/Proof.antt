@@ -1,23 +1,20 @@
--- `cases::files::put_legs` is safe: the loop keeps the length of the file.
+-- `cases::files::put_legs` is safe: the loop ends.
 -- Assumes nothing.
-use Prim.Native.Nat.{_≤_, _-_}
-use mathlib.Core.Path.{_≡_}
-use lib.ListN.{length}
+use Prim.Native.Nat.{_-_, _≤_}
 use borrow.Author.Needs.{needs}
+use lib.ListN.{length}
+use mathlib.Core.Path.{_≡_}
 use Rattle.cases.proofs.files.put_legs.Statement.{statement}
 use Rattle.cases.proofs.files.put_legs.Tie as tie
 
 abbrev Inv-loop : tie.InvT-loop
-Inv-loop file₀ legs metres at₀ first₀ second₀ i₀ file at first second i = (i ≤ legs) × (length file ≡ length file₀)
+Inv-loop file₀ legs at₀ first₀ second₀ counter₀ file at first second counter = (counter ≤ legs) × (length file ≡ length file₀)
 
 abbrev μ-loop : tie.MeasureT-loop
-μ-loop file₀ legs metres at₀ first₀ second₀ i₀ file at first second i = legs - i
+μ-loop file₀ legs at₀ first₀ second₀ counter₀ file at first second counter = legs - counter
 
 loop-holds : tie.Need-loop-holds Inv-loop μ-loop
 loop-holds c = search needs
-
-add-if1 : tie.Need-add-if1 Inv-loop μ-loop
-add-if1 c = search needs
 
 put-requires : tie.Need-put-requires Inv-loop μ-loop
 put-requires c κs = search needs
@@ -25,14 +22,14 @@ put-requires c κs = search needs
 wrapping-add-usize-requires : tie.Need-wrapping-add-usize-requires Inv-loop μ-loop
 wrapping-add-usize-requires c κs = search needs
 
-wrapping-add-u32-requires : tie.Need-wrapping-add-u32-requires Inv-loop μ-loop
-wrapping-add-u32-requires c κs = search needs
+wrapping-add-u64-requires : tie.Need-wrapping-add-u64-requires Inv-loop μ-loop
+wrapping-add-u64-requires c κs = search needs
 
-wrapping-add-u32-requires-2 : tie.Need-wrapping-add-u32-requires-2 Inv-loop μ-loop
-wrapping-add-u32-requires-2 c κs = search needs
+wrapping-add-u64-requires-2 : tie.Need-wrapping-add-u64-requires-2 Inv-loop μ-loop
+wrapping-add-u64-requires-2 c κs = search needs
 
-add-i : tie.Need-add-i Inv-loop μ-loop
-add-i c = search needs
+add-counter : tie.Need-add-counter Inv-loop μ-loop
+add-counter c = search needs
 
 loop-less : tie.Need-loop-less Inv-loop μ-loop
 loop-less c = search needs
@@ -53,12 +50,11 @@ put-legs-spec =
     Inv-loop
     μ-loop
     loop-holds
-    add-if1
     put-requires
     wrapping-add-usize-requires
-    wrapping-add-u32-requires
-    wrapping-add-u32-requires-2
-    add-i
+    wrapping-add-u64-requires
+    wrapping-add-u64-requires-2
+    add-counter
     loop-less
     loop-again
     same-length

@@ -1,59 +1,75 @@
--- `cases::files::short` is safe: the loop ends.
+-- `cases::files::short` is safe: no more is read than the file has.
 -- Assumes nothing.
-use Prim.Native.Nat.{_≤_, _-_}
+use borrow.Author.Needs.{needs}
+use lib.ListN.{length}
+use lib.Seq.{length-take-le}
+use mathlib.Core.Path.{_≡_, sym}
+use native.Mathlib.Omega.{arith}
 use borrow.Author.Needs.{needs}
 use Rattle.cases.proofs.files.short.Statement.{statement}
 use Rattle.cases.proofs.files.short.Tie as tie
 
-abbrev Inv-loop : tie.InvT-loop
-Inv-loop tally₀ i₀ tally i = i ≤ 52
+slice-aggregate-put : tie.Need-slice-aggregate-put
+slice-aggregate-put c = search needs
 
-abbrev μ-loop : tie.MeasureT-loop
-μ-loop tally₀ i₀ tally i = 52 - i
+put-requires : tie.Need-put-requires
+put-requires c κs = search needs
 
-none-requires : tie.Need-none-requires Inv-loop μ-loop
-none-requires c κs = search needs
+slice-aggregate-put-2 : tie.Need-slice-aggregate-put-2
+slice-aggregate-put-2 c = search needs
 
-loop-holds : tie.Need-loop-holds Inv-loop μ-loop
-loop-holds c = search needs
+put-requires-2 : tie.Need-put-requires-2
+put-requires-2 c κs = search needs
 
-mul-row-agrees : tie.Need-mul-row-agrees Inv-loop μ-loop
-mul-row-agrees c = search needs
+slice-aggregate-put-3 : tie.Need-slice-aggregate-put-3
+slice-aggregate-put-3 c = search needs
 
-array-copy-out-row-agrees : tie.Need-array-copy-out-row-agrees Inv-loop μ-loop
-array-copy-out-row-agrees c = search needs
+put-requires-3 : tie.Need-put-requires-3
+put-requires-3 c κs = search needs
 
-row-agrees-requires : tie.Need-row-agrees-requires Inv-loop μ-loop
-row-agrees-requires c κs = search needs
+slice-aggregate-put-4 : tie.Need-slice-aggregate-put-4
+slice-aggregate-put-4 c = search needs
 
-add-requires : tie.Need-add-requires Inv-loop μ-loop
-add-requires c κs = search needs
+put-requires-4 : tie.Need-put-requires-4
+put-requires-4 c κs = search needs
 
-add-i : tie.Need-add-i Inv-loop μ-loop
-add-i c = search needs
+slice-aggregate-set : tie.Need-slice-aggregate-set
+slice-aggregate-set c = search needs
 
-loop-less : tie.Need-loop-less Inv-loop μ-loop
-loop-less c = search needs
+set-requires : tie.Need-set-requires
+set-requires c κs = search needs
 
-loop-again : tie.Need-loop-again Inv-loop μ-loop
-loop-again c = search needs
+array-share-prefix-file : tie.Need-array-share-prefix-file
+array-share-prefix-file c = search needs
 
-returns : tie.Need-returns Inv-loop μ-loop
+slice-aggregate-read : tie.Need-slice-aggregate-read
+slice-aggregate-read c = sym (length-take-le _ _ (array-share-prefix-file (c .before)))
+
+read-requires : tie.Need-read-requires
+read-requires c κs = search needs
+
+returns : tie.Need-returns
 returns c = search needs
+
+returns-2 : tie.Need-returns-2
+returns-2 c = search needs
 
 pub short-spec : {M : Type 1} → statement M
 short-spec =
     tie.close
     (tie.spec
-    Inv-loop
-    μ-loop
-    none-requires
-    loop-holds
-    mul-row-agrees
-    array-copy-out-row-agrees
-    row-agrees-requires
-    add-requires
-    add-i
-    loop-less
-    loop-again
-    returns)
+    slice-aggregate-put
+    put-requires
+    slice-aggregate-put-2
+    put-requires-2
+    slice-aggregate-put-3
+    put-requires-3
+    slice-aggregate-put-4
+    put-requires-4
+    slice-aggregate-set
+    set-requires
+    array-share-prefix-file
+    slice-aggregate-read
+    read-requires
+    returns
+    returns-2)

@@ -9,7 +9,7 @@ use Rattle.base.specs.Numbers.{numberOf}
 use Rattle.base.specs.declared.Verdict.{Verdict}
 use Rattle.base.proofs.Numbers.{accepts, asked-again, refused-number}
 use Rattle.base.proofs.Tests.{within-yes}
-use Rattle.road.specs.Table.{metresOf, placesRefusal, triangleRefusal}
+use Rattle.road.specs.Table.{mostPlaces, placesRefusal, triangleRefusal}
 use Rattle.dayfile.specs.Codec.{records}
 use Rattle.dayfile.specs.Legs.{legTable}
 use Rattle.dayfile.specs.Scan.{counted, refuseAt, start, lengthRefusal, scan}
@@ -36,11 +36,11 @@ kept c = progress-read _ _ (run c)
 
 -- 3 does not apply to the number of places read, so the test of the ways between them decides
 ways : (c : tie.After-test-triangles) → let f = c .before .before .before .before .before in let n = f .scan .result .state .second in
-    numberOf (c .test-triangles .result) ≡ triangleRefusal n (metresOf (legTable n (records (f .before .before .before .before .before .args .bytes .now))))
+    numberOf (c .test-triangles .result) ≡ triangleRefusal n (legTable n (records (f .before .before .before .before .before .args .bytes .now)))
 ways c =
     let k = kept (c .before .before .before) in
     let n = c .before .before .before .before .before .scan .result .state .second in
-    let placed : placesRefusal n ≡ 0 = rw (within-yes 1 64 n (omega arith) (k .places)) in
+    let placed : placesRefusal n ≡ 0 = rw (within-yes 1 mostPlaces n (omega arith) (k .places)) in
     asked-again _ _ _ placed (rw (c .before .table .ensures) at (c .test-triangles .ensures))
 
 test-length-requires : tie.Need-test-length-requires
@@ -106,7 +106,7 @@ returns-3 c =
 day-requires : tie.Need-day-requires
 day-requires c κs =
     let k = kept (c .before .before .before .before .before) in
-    (k .places, (k .cranes, (k .calls, omega arith)))
+    record { places = k .places; cranes = k .cranes; calls = k .calls; long = omega arith }
 
 returns-4 : tie.Need-returns-4
 returns-4 c =

@@ -8,7 +8,7 @@ use Rattle.base.specs.Numbers.{_then_}
 use Rattle.base.proofs.Numbers.{goes-on, handed-up}
 use Rattle.base.proofs.Tests.{within-yes, within-below, within-above}
 use Rattle.road.specs.Table.{placesRefusal}
-use Rattle.dayfile.specs.Day.{countsRefusal}
+use Rattle.dayfile.specs.Day.{mostCranes, mostCalls, countsRefusal}
 use Rattle.dayfile.proofs.Day.test_counts.Statement.{statement}
 use Rattle.dayfile.proofs.Day.test_counts.Tie as tie
 
@@ -33,23 +33,23 @@ returns c =
 
 returns-2 : tie.Need-returns-2
 unfolding countsRefusal
-returns-2 c = placed (c .before) _ 6 (rw (within-below 1 16 _ (c .if1 .taken)))
+returns-2 c = placed (c .before) _ 6 (rw (within-below 1 mostCranes _ (c .if1 .taken)))
 
 returns-3 : tie.Need-returns-3
 unfolding countsRefusal
-returns-3 c = placed (c .before .before) _ 6 (rw (within-above 1 16 _ (c .if2 .taken)))
+returns-3 c = placed (c .before .before) _ 6 (rw (within-above 1 mostCranes _ (c .if2 .taken)))
 
 returns-4 : tie.Need-returns-4
 unfolding countsRefusal
 returns-4 c =
     placed (c .before .before .before) _ 7
-    (rw (within-yes 1 16 _ (c .before .before .if1 .left) (c .before .if2 .left), lt-leb _ 256 (c .if3 .taken)))
+    (rw (within-yes 1 mostCranes _ (c .before .before .if1 .left) (c .before .if2 .left), lt-leb _ mostCalls (c .if3 .taken)))
 
 returns-5 : tie.Need-returns-5
 unfolding countsRefusal
 returns-5 c =
     placed (c .before .before .before) _ 0
-    (rw (within-yes 1 16 _ (c .before .before .if1 .left) (c .before .if2 .left), le-leb _ 256 (c .if3 .left)))
+    (rw (within-yes 1 mostCranes _ (c .before .before .if1 .left) (c .before .if2 .left), le-leb _ mostCalls (c .if3 .left)))
 
 pub test-counts-spec : {M : Type 1} → statement M
 test-counts-spec =

@@ -4,20 +4,18 @@ use Prim.Native.Nat.{_≤_}
 use mathlib.Core.Path.{_≡_}
 use borrow.Author.Needs.{needs}
 use lib.ListN.{length}
-use lib.Seq.{length-take-le}
 use native.Mathlib.Omega.{arith}
 use Rattle.base.proofs.Numbers.{accepts, refused-number}
-use Rattle.road.specs.Table.{metresOf}
-use Rattle.dayfile.specs.Day.{dayStarts, dayRequests, dayRefusal}
+use Rattle.dayfile.specs.Day.{dayStarts, dayRequests, DayArrays, dayRefusal}
 use Rattle.dayfile.specs.Legs.{legCount}
-use Rattle.dayfile.proofs.Limits.{CountsTested, day-tested}
+use Rattle.dayfile.proofs.Limits.{CountsTested, length-starts, length-requests, day-tested}
 use Rattle.dayfile.proofs.Outputs.{day-refused, too-short, day-written}
 use Rattle.dayfile.proofs.legs.Laws.{leg-count-most}
 use Rattle.dayfile.proofs.Day.write.Statement.{statement}
 use Rattle.dayfile.proofs.Day.write.Tie as tie
 
 -- what the test of the day tells once it accepted
-tested : (c : tie.After-enum-told) → let a = c .before .before .before .before .args in dayRefusal (a .self) (metresOf (a .t2)) ≡ 0
+tested : (c : tie.After-enum-told) → let a = c .before .before .before .before .args in dayRefusal (a .self) (a .t2) ≡ 0
 tested c = accepts _ _ (c .enum-told .given .1) (c .before .before .test .ensures)
 
 counts : (c : tie.After-enum-told) → let a = c .before .before .before .before .args .self in CountsTested (a .places) (a .cranes) (a .calls)
@@ -26,15 +24,14 @@ counts c = day-tested _ _ (tested c) .counts
 legs : (c : tie.After-enum-told) → legCount (c .before .before .before .before .args .self .places) ≤ 2016
 legs c = leg-count-most _ (counts c .places)
 
+arrays : (c : tie.After-enum-told) → DayArrays (c .before .before .before .before .args .self)
+arrays c = record { starts = search needs; requests = search needs }
+
 cranes : (c : tie.After-enum-told) → let a = c .before .before .before .before .args .self in length (dayStarts a) ≡ a .cranes
-cranes c =
-    let len : length (c .before .before .before .before .args .self .starts) ≡ 16 = search needs in
-    length-take-le _ _ (omega (arith, counts c))
+cranes c = length-starts _ (arrays c) (counts c .cranes)
 
 calls : (c : tie.After-enum-told) → let a = c .before .before .before .before .args .self in length (dayRequests a) ≡ a .calls
-calls c =
-    let len : length (c .before .before .before .before .args .self .requests) ≡ 256 = search needs in
-    length-take-le _ _ (omega (arith, counts c))
+calls c = length-requests _ (arrays c) (counts c .calls)
 
 test-requires : tie.Need-test-requires
 test-requires c κs = search needs
@@ -72,7 +69,7 @@ put-requires : tie.Need-put-requires
 put-requires c κs =
     let n = c .before .before .before .before .before in
     let k = counts (n .before) in
-    (k .places, (k .cranes, (k .calls, rw (n .count .ensures) at (c .before .before .if1 .left))))
+    record { places = k .places; cranes = k .cranes; calls = k .calls; long = rw (n .count .ensures) at (c .before .before .if1 .left) }
 
 same-length : tie.Need-same-length
 same-length c = search needs

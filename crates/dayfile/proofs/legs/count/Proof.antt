@@ -1,15 +1,16 @@
--- `dayfile::legs::count` meets its contract: the product fits, there being at most 64 places.
+-- `dayfile::legs::count` meets its contract: the product fits, there being at most `mostPlaces`.
 -- Assumes nothing.
 use Prim.Native.Nat.{ℕ, _-_, _*_, _≤_}
 use mathlib.Core.Path.{refl}
 use borrow.Author.Needs.{needs}
 use native.Mathlib.Nat.{mul-le-mul}
 use native.Mathlib.Omega.{arith}
+use Rattle.road.specs.Table.{mostPlaces}
 use Rattle.dayfile.specs.Legs.{legCount}
 use Rattle.dayfile.proofs.legs.count.Statement.{statement}
 use Rattle.dayfile.proofs.legs.count.Tie as tie
 
-product : (n : ℕ) → n ≤ 64 → n * (n - 1) ≤ 4032
+product : (n : ℕ) → n ≤ mostPlaces → n * (n - 1) ≤ 4032
 product n h = mul-le-mul {m₂ = 63} h (omega arith)
 
 returns : tie.Need-returns

@@ -8,8 +8,7 @@ use Rattle.dayfile.proofs.legs.entry.Tie as tie
 
 metres-requires : tie.Need-metres-requires
 metres-requires c κs =
-    let p = c .before .before .pre .1 in
-    let h = legs-before _ _ (p .1 .1 .0) in
+    let h = legs-before _ _ (c .before .before .pre .to) in
     (omega arith, omega arith)
 
 returns : tie.Need-returns
@@ -17,8 +16,7 @@ returns c = c .metres .ensures ∙ sym (between-up _ _ _ (c .before .if1 .taken)
 
 metres-requires-2 : tie.Need-metres-requires-2
 metres-requires-2 c κs =
-    let p = c .before .before .before .pre .1 in
-    let h = legs-before _ _ (p .1 .0) in
+    let h = legs-before _ _ (c .before .before .before .pre .from) in
     (omega arith, omega arith)
 
 returns-2 : tie.Need-returns-2

@@ -3,6 +3,7 @@
 use Prim.Native.Nat.{_-_}
 use borrow.Author.Needs.{needs}
 use Rattle.base.proofs.Lists.{Filled, fill-begun, fill-turned, fill-padded}
+use Rattle.road.specs.Table.{mostPlaces}
 use Rattle.dayfile.specs.Codec.{records}
 use Rattle.dayfile.specs.Legs.{between, legRow}
 use Rattle.dayfile.proofs.legs.row.Statement.{statement}
@@ -20,7 +21,7 @@ loop-holds c = fill-begun _ _ _
 entry-requires : tie.Need-entry-requires Inv-loop μ-loop
 entry-requires c κs =
     let p = c .before .before .before .pre in
-    (_, (p .0, (p .1 .0, (c .loop-test .taken, p .1 .1))))
+    record { n = _; places = p .0; from = p .1 .0; to = c .loop-test .taken; long = p .1 .1 }
 
 mul-row : tie.Need-mul-row Inv-loop μ-loop
 mul-row c = search needs
@@ -41,7 +42,7 @@ loop-again c =
 
 returns : tie.Need-returns Inv-loop μ-loop
 unfolding legRow
-returns c = fill-padded _ 64 _ 0 _ _ (c .before .loop .inv) (c .loop-test .left)
+returns c = fill-padded _ mostPlaces _ 0 _ _ (c .before .loop .inv) (c .loop-test .left)
 
 pub row-spec : {M : Type 1} → statement M
 row-spec =

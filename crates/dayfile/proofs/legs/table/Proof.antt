@@ -4,6 +4,7 @@ use Prim.Native.Nat.{_-_}
 use borrow.Author.Needs.{needs}
 use lib.ListN.{replicate}
 use Rattle.base.proofs.Lists.{Filled, fill-begun, fill-turned, fill-padded}
+use Rattle.road.specs.Table.{mostPlaces}
 use Rattle.dayfile.specs.Codec.{records}
 use Rattle.dayfile.specs.Legs.{legRow, legTable}
 use Rattle.dayfile.proofs.legs.table.Statement.{statement}
@@ -40,7 +41,7 @@ loop-again c =
 
 returns : tie.Need-returns Inv-loop μ-loop
 unfolding legTable
-returns c = fill-padded _ 64 _ (replicate 64 0) _ _ (c .before .loop .inv) (c .loop-test .left)
+returns c = fill-padded _ mostPlaces _ (replicate mostPlaces 0) _ _ (c .before .loop .inv) (c .loop-test .left)
 
 pub table-spec : {M : Type 1} → statement M
 table-spec =

@@ -14,12 +14,13 @@ use Rattle.dayfile.specs.declared.scan.State.{State}
 use Rattle.dayfile.specs.Codec.{records}
 use Rattle.dayfile.specs.File.{stopFrom, dayOf}
 use Rattle.dayfile.specs.Legs.{legCount}
+use Rattle.dayfile.specs.Day.{mostCranes, mostCalls}
 use Rattle.dayfile.proofs.scan.day.Statement.{statement}
 use Rattle.dayfile.proofs.scan.day.Tie as tie
 
 made : (rs : List Record) (s : State) (starts requests : List ℕ)
-    → starts ≡ padded 16 (s .cranes) (stopFrom rs (legCount (s .second))) 0
-    → requests ≡ padded 256 (s .calls) (stopFrom rs (legCount (s .second) + s .cranes)) 0
+    → starts ≡ padded mostCranes (s .cranes) (stopFrom rs (legCount (s .second))) 0
+    → requests ≡ padded mostCalls (s .calls) (stopFrom rs (legCount (s .second) + s .cranes)) 0
     → _≡_ {A = Day} (record { places = s .second; cranes = s .cranes; calls = s .calls; starts = starts; requests = requests }) (dayOf rs s)
 unfolding dayOf
 made rs s starts requests e f =
@@ -32,7 +33,7 @@ array-borrow-prefix-starts : tie.Need-array-borrow-prefix-starts
 array-borrow-prefix-starts c = search needs
 
 slice-aggregate-read : tie.Need-slice-aggregate-read
-slice-aggregate-read c = sym (length-take-le _ _ (c .before .before .before .pre .1 .0))
+slice-aggregate-read c = sym (length-take-le _ _ (c .before .before .before .pre .cranes))
 
 read-requires : tie.Need-read-requires
 read-requires c κs = rw (c .before .count .ensures, ← slice-aggregate-read c) (omega arith)
@@ -44,7 +45,7 @@ array-borrow-prefix-requests : tie.Need-array-borrow-prefix-requests
 array-borrow-prefix-requests c = search needs
 
 slice-aggregate-read-2 : tie.Need-slice-aggregate-read-2
-slice-aggregate-read-2 c = sym (length-take-le _ _ (c .before .before .before .before .before .before .pre .1 .1 .0))
+slice-aggregate-read-2 c = sym (length-take-le _ _ (c .before .before .before .before .before .before .pre .calls))
 
 read-requires-2 : tie.Need-read-requires-2
 read-requires-2 c κs = rw (c .before .before .before .before .count .ensures, ← slice-aggregate-read-2 c) (omega arith)
@@ -56,10 +57,10 @@ returns c =
     let s = n .before .before .args .s in
     let rs = records (n .before .before .args .bytes .now) in
     made rs s _ _
-    (padded-by 16 (s .cranes) (stopFrom rs (n .count .result)) 0 _ (p .1 .0) (c .before .before .before .before .read .ensures)
-    ∙ ap (λ (m : ℕ). padded 16 (s .cranes) (stopFrom rs m) 0) (n .count .ensures))
-    (padded-by 256 (s .calls) (stopFrom rs (n .count .result + s .cranes)) 0 _ (p .1 .1 .0) (c .before .read2 .ensures)
-    ∙ ap (λ (m : ℕ). padded 256 (s .calls) (stopFrom rs (m + s .cranes)) 0) (n .count .ensures))
+    (padded-by mostCranes (s .cranes) (stopFrom rs (n .count .result)) 0 _ (p .cranes) (c .before .before .before .before .read .ensures)
+    ∙ ap (λ (m : ℕ). padded mostCranes (s .cranes) (stopFrom rs m) 0) (n .count .ensures))
+    (padded-by mostCalls (s .calls) (stopFrom rs (n .count .result + s .cranes)) 0 _ (p .calls) (c .before .read2 .ensures)
+    ∙ ap (λ (m : ℕ). padded mostCalls (s .calls) (stopFrom rs (m + s .cranes)) 0) (n .count .ensures))
 
 pub day-spec : {M : Type 1} → statement M
 day-spec =

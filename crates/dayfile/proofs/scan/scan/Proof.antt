@@ -82,7 +82,7 @@ returns c =
     (t .test-record .ensures) (refused-number _ (e .0 .0) (e .1))
 
 next-requires : tie.Need-next-requires Inv-loop μ-loop
-next-requires c κs = let k = c .before .before .before .before .before .loop .inv .kept in (omega arith, (k .places, (k .cranes, k .calls)))
+next-requires c κs = let k = c .before .before .before .before .before .loop .inv .kept in record { first = omega arith; second = k .places; cranes = k .cranes; calls = k .calls }
 
 add-i : tie.Need-add-i Inv-loop μ-loop
 add-i c = search needs

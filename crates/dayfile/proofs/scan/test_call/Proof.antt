@@ -4,6 +4,7 @@ use borrow.Author.Needs.{needs}
 use borrow.Author.Tests.{lt-ltb, le-ltb}
 use Rattle.base.proofs.Numbers.{goes-on, handed-up}
 use Rattle.dayfile.specs.Scan.{callRefusal}
+use Rattle.dayfile.specs.Day.{mostCalls}
 use Rattle.dayfile.proofs.scan.test_call.Statement.{statement}
 use Rattle.dayfile.proofs.scan.test_call.Tie as tie
 
@@ -26,13 +27,13 @@ returns-2 : tie.Need-returns-2
 unfolding callRefusal
 returns-2 c =
     let t = c .before .before in
-    goes-on _ _ _ _ (t .enum-told .given .1) (t .before .before .test-stop .ensures) (rw (le-ltb _ 256 (c .if1 .taken)))
+    goes-on _ _ _ _ (t .enum-told .given .1) (t .before .before .test-stop .ensures) (rw (le-ltb _ mostCalls (c .if1 .taken)))
 
 returns-3 : tie.Need-returns-3
 unfolding callRefusal
 returns-3 c =
     let t = c .before .before in
-    goes-on _ _ _ _ (t .enum-told .given .1) (t .before .before .test-stop .ensures) (rw (lt-ltb _ 256 (c .if1 .left)))
+    goes-on _ _ _ _ (t .enum-told .given .1) (t .before .before .test-stop .ensures) (rw (lt-ltb _ mostCalls (c .if1 .left)))
 
 pub test-call-spec : {M : Type 1} → statement M
 test-call-spec = tie.close (tie.spec test-stop-requires enum-told enum-told-2 returns returns-2 returns-3)

@@ -2,6 +2,7 @@
 -- Assumes nothing.
 use borrow.Author.Needs.{needs}
 use borrow.Author.Tests.{eq-eqb, ne-eqb, lt-ltb, le-ltb}
+use Rattle.road.specs.Table.{mostPlaces}
 use Rattle.dayfile.specs.Scan.{legRefusal}
 use Rattle.dayfile.proofs.scan.test_leg.Statement.{statement}
 use Rattle.dayfile.proofs.scan.test_leg.Tie as tie
@@ -33,7 +34,7 @@ returns-4 : tie.Need-returns-4
 unfolding legRefusal
 returns-4 c =
     let b = c .before .before .before .before .before in
-    rw (eq-eqb _ 0 (b .before .before .before .if1 .left), eq-eqb _ _ (b .if2 .left), eq-eqb _ _ (c .before .before .if3 .left), le-ltb _ 64 (c .if4 .taken))
+    rw (eq-eqb _ 0 (b .before .before .before .if1 .left), eq-eqb _ _ (b .if2 .left), eq-eqb _ _ (c .before .before .if3 .left), le-ltb _ mostPlaces (c .if4 .taken))
 
 test-metres-requires : tie.Need-test-metres-requires
 test-metres-requires c κs = search needs
@@ -43,7 +44,7 @@ unfolding legRefusal
 returns-5 c =
     let d = c .before in
     let b = d .before .before .before .before .before in
-    rw (eq-eqb _ 0 (b .before .before .before .if1 .left), eq-eqb _ _ (b .if2 .left), eq-eqb _ _ (d .before .before .if3 .left), lt-ltb _ 64 (d .if4 .left))
+    rw (eq-eqb _ 0 (b .before .before .before .if1 .left), eq-eqb _ _ (b .if2 .left), eq-eqb _ _ (d .before .before .if3 .left), lt-ltb _ mostPlaces (d .if4 .left))
     (c .test-metres .ensures)
 
 pub test-leg-spec : {M : Type 1} → statement M

@@ -7,13 +7,14 @@ use lib.ListN.{length}
 use native.Mathlib.Omega.{arith}
 use Rattle.base.specs.Numbers.{numberOf}
 use Rattle.base.proofs.Numbers.{refused-number}
-use Rattle.book.specs.Serving.{DayFigures, dayFigures}
+use Rattle.dayfile.specs.Day.{mostCalls}
+use Rattle.dispatch.specs.Serving.{DayFigures, dayFigures}
 use Rattle.report.proofs.Outputs.{served-calls, day-refused, day-put}
 use Rattle.report.proofs.text.Laws.{calls-most}
 use Rattle.report.proofs.day.put_day.Statement.{statement}
 use Rattle.report.proofs.day.put_day.Tie as tie
 
-few : (c : tie.After-serve-day) → c .serve-day .result .calls ≤ 256
+few : (c : tie.After-serve-day) → c .serve-day .result .calls ≤ mostCalls
 few c = rw (ap (λ (s : DayFigures). s .calls) (c .serve-day .ensures)) (served-calls _ _)
 
 serve-day-requires : tie.Need-serve-day-requires
@@ -58,10 +59,10 @@ put-calls-requires : tie.Need-put-calls-requires
 put-calls-requires c κs =
     let s = c .before .before .before .before .before .before .before .before .before in
     let most = few s in
-    let cranes : length (s .serve-day .result .cranes) ≡ 256 = search needs in
-    let metres : length (s .serve-day .result .metres) ≡ 256 = search needs in
-    let leasts : length (s .serve-day .result .leasts) ≡ 256 = search needs in
-    (omega arith, (omega arith, (omega arith, omega arith)))
+    let cranes : length (s .serve-day .result .cranes) ≡ mostCalls = search needs in
+    let metres : length (s .serve-day .result .metres) ≡ mostCalls = search needs in
+    let leasts : length (s .serve-day .result .leasts) ≡ mostCalls = search needs in
+    record { sent = omega arith; driven = omega arith; costed = omega arith; room = omega arith }
 
 put-last-requires : tie.Need-put-last-requires
 put-last-requires c κs = omega (arith, few (c .before .before .before .before .before .before .before .before .before .before .before .before .before), calls-most _ _ _ _ (c .before .before .before .put-calls .ensures))

@@ -2,14 +2,15 @@
 -- Assumes nothing.
 use Prim.Native.Nat.{_≤_}
 use borrow.Author.Needs.{needs}
-use Rattle.base.proofs.Numbers.{holds, goes-on, handed-up}
-use Rattle.base.proofs.Tests.{within-most}
+use Rattle.base.proofs.Numbers.{goes-on, handed-up}
+use Rattle.road.specs.Table.{mostPlaces}
+use Rattle.road.proofs.Table.{few-places}
 use Rattle.road.proofs.Road.test.Statement.{statement}
 use Rattle.road.proofs.Road.test.Tie as tie
 
 -- what the first test that accepted tells
-few : (c : tie.After-enum-told) → c .before .before .before .args .places ≤ 64
-few c = within-most 1 64 _ (holds _ _ 2 (c .enum-told .given .1) (c .before .before .test-places .ensures))
+few : (c : tie.After-enum-told) → c .before .before .before .args .places ≤ mostPlaces
+few c = few-places _ _ (c .enum-told .given .1) (c .before .before .test-places .ensures)
 
 test-places-requires : tie.Need-test-places-requires
 test-places-requires c κs = search needs

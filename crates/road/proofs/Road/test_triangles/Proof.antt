@@ -1,8 +1,8 @@
 -- `road::Road::test_triangles` meets its contract: 3 is handed up, and where it does not apply the rest decides.
 -- Assumes nothing.
 use borrow.Author.Needs.{needs}
-use Rattle.base.proofs.Numbers.{holds, goes-on, handed-up}
-use Rattle.base.proofs.Tests.{within-most}
+use Rattle.base.proofs.Numbers.{goes-on, handed-up}
+use Rattle.road.proofs.Table.{few-places}
 use Rattle.road.proofs.Road.test_triangles.Statement.{statement}
 use Rattle.road.proofs.Road.test_triangles.Tie as tie
 
@@ -21,8 +21,7 @@ returns c =
     handed-up _ (e .0 .0) (e .1) _ _ (c .before .before .test-places .ensures)
 
 test-requires : tie.Need-test-requires
-test-requires c κs =
-    within-most 1 64 _ (holds _ _ 2 (c .before .enum-told .given .1) (c .before .before .before .test-places .ensures))
+test-requires c κs = few-places _ _ (c .before .enum-told .given .1) (c .before .before .before .test-places .ensures)
 
 returns-2 : tie.Need-returns-2
 returns-2 c =

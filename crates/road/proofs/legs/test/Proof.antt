@@ -2,17 +2,16 @@
 -- Assumes nothing.
 use Prim.Native.Nat.{ℕ, _-_}
 use mathlib.Core.Bool.{Bool}
-use mathlib.Core.List.{List}
 use borrow.Author.Needs.{needs}
 use Rattle.base.specs.Tests.{allBelow}
-use Rattle.base.proofs.Numbers.{holds, stops}
-use Rattle.base.proofs.Tests.{Passed, begun, turned, ended, below-fails}
-use Rattle.road.specs.Table.{metresOf, legRule}
+use Rattle.base.proofs.Numbers.{turns, stops-below}
+use Rattle.base.proofs.Tests.{Passed, begun, ended}
+use Rattle.road.specs.Table.{Table, metresOf, legRule}
 use Rattle.road.proofs.legs.test.Statement.{statement}
 use Rattle.road.proofs.legs.test.Tie as tie
 
 -- what the loop tests of each place
-abbrev rule : List (List ℕ) → ℕ → ℕ → Bool
+abbrev rule : Table → ℕ → ℕ → Bool
 rule table places = λ u. allBelow places (legRule (metresOf table) u)
 
 abbrev Inv-loop : tie.InvT-loop
@@ -38,8 +37,8 @@ returns c =
     let l = c .before .before .before .before in
     let a = l .before .args in
     let e = c .enum-told2 .given in
-    stops _ (e .0 .0) (e .1) _ _ 4 (c .before .before .test-from .ensures)
-    (below-fails (rule (a .table .now) (a .places)) (a .places) (l .loop .u) (c .before .before .before .loop-test .taken))
+    stops-below _ (e .0 .0) (e .1) (a .places) (l .loop .u) 4 (rule (a .table .now) (a .places)) (c .before .before .test-from .ensures)
+    (c .before .before .before .loop-test .taken)
 
 add-u : tie.Need-add-u Inv-loop μ-loop
 add-u c = search needs
@@ -50,8 +49,8 @@ loop-less c = search needs
 loop-again : tie.Need-loop-again Inv-loop μ-loop
 loop-again c =
     let l = c .before .before .before .before in
-    turned _ _ (l .loop .u) (l .loop .inv) (c .before .before .before .loop-test .taken)
-    (holds _ _ 3 (c .enum-told .given .1) (c .before .before .test-from .ensures))
+    turns _ _ (l .loop .u) 3 _ (c .enum-told .given .1) (c .before .before .test-from .ensures) (c .before .before .before .loop-test .taken)
+    (l .loop .inv)
 
 returns-2 : tie.Need-returns-2 Inv-loop μ-loop
 returns-2 c = rw (ended _ _ (c .before .loop .u) (c .before .loop .inv) (c .loop-test .left))

@@ -2,16 +2,15 @@
 -- Assumes nothing.
 use Prim.Native.Nat.{ℕ, _-_}
 use mathlib.Core.Bool.{Bool}
-use mathlib.Core.List.{List}
 use borrow.Author.Needs.{needs}
-use Rattle.base.proofs.Numbers.{holds, stops}
-use Rattle.base.proofs.Tests.{Passed, begun, turned, ended, below-fails}
-use Rattle.road.specs.Table.{metresOf, legRule}
+use Rattle.base.proofs.Numbers.{turns, stops-below}
+use Rattle.base.proofs.Tests.{Passed, begun, ended}
+use Rattle.road.specs.Table.{Table, metresOf, legRule}
 use Rattle.road.proofs.legs.test_from.Statement.{statement}
 use Rattle.road.proofs.legs.test_from.Tie as tie
 
 -- what the loop tests of each place
-abbrev rule : List (List ℕ) → ℕ → ℕ → Bool
+abbrev rule : Table → ℕ → ℕ → Bool
 rule table u = legRule (metresOf table) u
 
 abbrev Inv-loop : tie.InvT-loop
@@ -37,8 +36,8 @@ returns c =
     let l = c .before .before .before .before in
     let a = l .before .args in
     let e = c .enum-told2 .given in
-    stops _ (e .0 .0) (e .1) _ _ 4 (c .before .before .test-leg .ensures)
-    (below-fails (rule (a .table .now) (a .u)) (a .places) (l .loop .v) (c .before .before .before .loop-test .taken))
+    stops-below _ (e .0 .0) (e .1) (a .places) (l .loop .v) 4 (rule (a .table .now) (a .u)) (c .before .before .test-leg .ensures)
+    (c .before .before .before .loop-test .taken)
 
 add-v : tie.Need-add-v Inv-loop μ-loop
 add-v c = search needs
@@ -49,8 +48,8 @@ loop-less c = search needs
 loop-again : tie.Need-loop-again Inv-loop μ-loop
 loop-again c =
     let l = c .before .before .before .before in
-    turned _ _ (l .loop .v) (l .loop .inv) (c .before .before .before .loop-test .taken)
-    (holds _ _ 3 (c .enum-told .given .1) (c .before .before .test-leg .ensures))
+    turns _ _ (l .loop .v) 3 _ (c .enum-told .given .1) (c .before .before .test-leg .ensures) (c .before .before .before .loop-test .taken)
+    (l .loop .inv)
 
 returns-2 : tie.Need-returns-2 Inv-loop μ-loop
 returns-2 c = rw (ended _ _ (c .before .loop .v) (c .before .loop .inv) (c .loop-test .left))

@@ -2,18 +2,17 @@
 -- Assumes nothing.
 use Prim.Native.Nat.{ℕ, _-_, _≤_, zero-le}
 use mathlib.Core.Bool.{Bool, true, false, _&&_}
-use mathlib.Core.List.{List}
 use mathlib.Core.Path.{_≡_, refl, sym, ap₂, subst, _∙_}
 use borrow.Author.Needs.{needs}
 use native.Mathlib.Nat.{le-antisymm}
 use native.Mathlib.Numerals.{add-one}
 use Rattle.base.specs.Tests.{allBelow}
-use Rattle.road.specs.Table.{metresOf, wayRule}
+use Rattle.road.specs.Table.{Table, metresOf, wayRule}
 use Rattle.road.proofs.triangles.test_by.Statement.{statement}
 use Rattle.road.proofs.triangles.test_by.Tie as tie
 
 -- what the loop tests of each place
-abbrev rule : List (List ℕ) → ℕ → ℕ → ℕ → Bool
+abbrev rule : Table → ℕ → ℕ → ℕ → Bool
 rule table u v = wayRule (metresOf table) u v
 
 abbrev Inv-loop : tie.InvT-loop

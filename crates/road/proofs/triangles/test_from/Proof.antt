@@ -2,17 +2,16 @@
 -- Assumes nothing.
 use Prim.Native.Nat.{ℕ, _-_}
 use mathlib.Core.Bool.{Bool}
-use mathlib.Core.List.{List}
 use borrow.Author.Needs.{needs}
 use Rattle.base.specs.Tests.{allBelow}
-use Rattle.base.proofs.Numbers.{holds, stops}
-use Rattle.base.proofs.Tests.{Passed, begun, turned, ended, below-fails}
-use Rattle.road.specs.Table.{metresOf, wayRule}
+use Rattle.base.proofs.Numbers.{turns, stops-below}
+use Rattle.base.proofs.Tests.{Passed, begun, ended}
+use Rattle.road.specs.Table.{Table, metresOf, wayRule}
 use Rattle.road.proofs.triangles.test_from.Statement.{statement}
 use Rattle.road.proofs.triangles.test_from.Tie as tie
 
 -- what the loop tests of each place
-abbrev rule : List (List ℕ) → ℕ → ℕ → ℕ → Bool
+abbrev rule : Table → ℕ → ℕ → ℕ → Bool
 rule table places u = λ v. allBelow places (wayRule (metresOf table) u v)
 
 abbrev Inv-loop : tie.InvT-loop
@@ -38,8 +37,8 @@ returns c =
     let l = c .before .before .before .before in
     let a = l .before .args in
     let e = c .enum-told2 .given in
-    stops _ (e .0 .0) (e .1) _ _ 8 (c .before .before .test-by .ensures)
-    (below-fails (rule (a .table .now) (a .places) (a .u)) (a .places) (l .loop .v) (c .before .before .before .loop-test .taken))
+    stops-below _ (e .0 .0) (e .1) (a .places) (l .loop .v) 8 (rule (a .table .now) (a .places) (a .u)) (c .before .before .test-by .ensures)
+    (c .before .before .before .loop-test .taken)
 
 add-v : tie.Need-add-v Inv-loop μ-loop
 add-v c = search needs
@@ -50,8 +49,8 @@ loop-less c = search needs
 loop-again : tie.Need-loop-again Inv-loop μ-loop
 loop-again c =
     let l = c .before .before .before .before in
-    turned _ _ (l .loop .v) (l .loop .inv) (c .before .before .before .loop-test .taken)
-    (holds _ _ 7 (c .enum-told .given .1) (c .before .before .test-by .ensures))
+    turns _ _ (l .loop .v) 7 _ (c .enum-told .given .1) (c .before .before .test-by .ensures) (c .before .before .before .loop-test .taken)
+    (l .loop .inv)
 
 returns-2 : tie.Need-returns-2 Inv-loop μ-loop
 returns-2 c = rw (ended _ _ (c .before .loop .v) (c .before .loop .inv) (c .loop-test .left))

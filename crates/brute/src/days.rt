@@ -1,0 +1,111 @@
+// Every small day up to a size, and days drawn at random, each served by the library and by the brute search.
+use crate::search;
+use crate::small;
+use crate::tally::Tally;
+use dayfile::Day;
+use road::Table;
+ghost use Prim.Native.Nat.{_<_};
+
+// Whether every figure of a small day agrees. Its table need not keep the triangle rule: then the day must be refused by 8.
+fn agrees(day: Day, table: &Table) -> bool {
+    if small::metric(table, day.places) {
+        let sides = search::day(day, table);
+        return sides.agree;
+    }
+    let served = search::served(day, table);
+    let verdict = served.verdict;
+    base::number(verdict) == 8
+}
+
+// All days of a size, which are so many: with legs of at most so many metres, and with so many tables and lists of starts.
+fn every(
+    before: Tally,
+    places: usize,
+    cranes: usize,
+    calls: usize,
+    longest: u64,
+    tables: usize,
+    starts: usize,
+    days: usize,
+) -> Tally
+    requires { ⌜ (0 < places) × ((0 < longest) × ((0 < tables) × (0 < starts))) ⌝ }
+{
+    let mut tally = before;
+    for i in 0..days {
+        let table = small::table(small::counted(i % tables), longest, false);
+        let first = small::counted(i / tables % starts);
+        let asked = small::counted(i / tables / starts);
+        let day = small::day(places, cranes, calls, first, asked, places as u64);
+        tally = tally.add(agrees(day, &table));
+    }
+    tally
+}
+
+// Every day of six sizes.
+pub(crate) fn all() -> Tally {
+    let one = every(Tally::none(), 1, 1, 6, 1, 1, 1, 1);
+    let two = every(every(one, 2, 2, 6, 2, 2, 4, 512), 2, 3, 4, 3, 3, 8, 384);
+    let three = every(two, 3, 1, 3, 3, 27, 3, 2_187);
+    every(
+        every(three, 3, 2, 3, 3, 27, 9, 6_561),
+        3,
+        3,
+        2,
+        3,
+        27,
+        27,
+        6_561,
+    )
+}
+
+// Random days: those without a call at which two cranes had the same sum, and those with one.
+pub struct Drawn {
+    pub plain: Tally,
+    pub tied: Tally,
+}
+
+// One day more.
+fn counted(drawn: Drawn, tied: bool, agree: bool) -> Drawn {
+    let plain = drawn.plain;
+    let with = drawn.tied;
+    if tied {
+        return Drawn {
+            plain,
+            tied: with.add(agree),
+        };
+    }
+    Drawn {
+        plain: plain.add(agree),
+        tied: with,
+    }
+}
+
+// So many random days of a size too, with legs of at most so many metres before the shortest ways are taken.
+fn some(before: Drawn, places: usize, cranes: usize, longest: u64, days: usize) -> Drawn
+    requires { ⌜ (0 < places) × (0 < longest) ⌝ }
+{
+    let mut all = before;
+    for i in 0..days {
+        let table = small::drawn_table(i, places, longest, false);
+        let sides = search::day(small::drawn_day(i, places, cranes, 6), &table);
+        all = counted(all, sides.tied, sides.agree);
+    }
+    all
+}
+
+// Random days of seven sizes.
+pub(crate) fn random() -> Drawn {
+    let none = Drawn {
+        plain: Tally::none(),
+        tied: Tally::none(),
+    };
+    let four = some(
+        some(some(none, 5, 4, 2, 120), 5, 4, 1_000, 120),
+        5,
+        4,
+        100_000,
+        120,
+    );
+    let fewer = some(some(four, 5, 2, 100, 300), 5, 1, 1_000, 300);
+    some(some(fewer, 4, 3, 3, 300), 3, 4, 2, 300)
+}

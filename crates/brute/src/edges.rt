@@ -1,0 +1,67 @@
+// Days of document 01 with every figure: its edges, case A, its wrong turns and the days that show where a shorter method goes wrong.
+use crate::search;
+use crate::small;
+use crate::tally::Tally;
+use dayfile::Day;
+use libc::STDOUT_FILENO;
+use road::Table;
+
+// The records of three legs, three cranes and three calls.
+const ROOM: usize = 108;
+
+// Prints what the program tells of a day.
+fn tell(day: Day, table: Table) {
+    let mut file = [0; ROOM];
+    let written = day.write(table, &mut file);
+    let length = written.length;
+    if ROOM < length {
+        return;
+    }
+    let printed = report::print(&file[..length]);
+    let text = printed.text;
+    let end = printed.length;
+    if report::TEXT < end {
+        return;
+    }
+    io::write_all(STDOUT_FILENO, &text[..end]);
+}
+
+// A day of three legs, with so many cranes and calls, their places the digits of a number, the first the last digit. Prints what the
+// program tells of it, and counts whether the brute search finds the same.
+fn edge(
+    before: Tally,
+    table: Table,
+    places: usize,
+    cranes: usize,
+    starts: usize,
+    calls: usize,
+    asked: usize,
+) -> Tally {
+    let day = small::day(
+        places,
+        cranes,
+        calls,
+        small::counted(starts),
+        small::counted(asked),
+        10,
+    );
+    tell(day, table);
+    let sides = search::day(day, &table);
+    before.add(sides.agree)
+}
+
+// All days.
+pub(crate) fn all() -> Tally {
+    // Case A. At its last call crane 0 is nearer, and the least cost falls.
+    let a = edge(Tally::none(), small::three(10, 20, 15), 3, 2, 20, 3, 101);
+    // One place, one crane, one call.
+    let one = edge(a, small::three(0, 0, 0), 1, 1, 0, 1, 0);
+    // Equal sums and equal drives.
+    let equal = edge(one, small::three(10, 20, 10), 3, 2, 20, 1, 1);
+    // Two cranes at one place.
+    let two = edge(equal, small::three(7, 0, 0), 2, 2, 0, 1, 1);
+    // At the last call equal sums, and the second crane drives less. The ends count: the least cost is above the floor.
+    let ends = edge(two, small::three(1, 2, 2), 3, 2, 2, 3, 101);
+    // Steps out of stands count: without them the net costs of the last call are wrong.
+    edge(ends, small::three(3, 1, 3), 3, 3, 2, 3, 201)
+}

@@ -1,0 +1,183 @@
+-- A day served call by call: what holds after each call, what the calls give together, and the fresh book with which it begins.
+-- Assumes nothing.
+use Prim.Native.Nat.{ℕ, _+_, _*_, _<_, _≤_}
+use mathlib.Core.List.{List, [], _∷_, _++_}
+use mathlib.Core.Path.{_≡_, refl, sym, ap, _∙_}
+use lib.IntN.{ℤ}
+use lib.ListN.{length, getD, set, take, drop, replicate}
+use lib.Seq.{drop-cons, take-suc, drop-drop, getD-drop}
+use native.Mathlib.Nat.{add-zero, le-antisymm}
+use native.Mathlib.Numerals.{add-one}
+use native.Mathlib.Omega.{arith}
+use Rattle.base.proofs.Lists.{take-kept, drop-replicate, Filled, fill-begun, fill-turned, fill-ended}
+use Rattle.road.specs.Table.{Table, metresOf, entry}
+use Rattle.dayfile.specs.declared.Day.{Day}
+use Rattle.dayfile.specs.Day.{mostCranes, mostCalls, dayStarts, dayRequests, DayArrays, dayRefusal}
+use Rattle.dayfile.proofs.Limits.{Tested, day-tested, stop-below, enough-starts, enough-requests, length-requests}
+use Rattle.workfunction.specs.Choice.{moved, choice}
+use Rattle.workfunction.specs.Lists.{sumBelow}
+use Rattle.workfunction.specs.Movement.{floor}
+use Rattle.workfunction.specs.Serving.{Served, servedBy, served, serve}
+use Rattle.workfunction.proofs.Sums.{sum-last}
+use Rattle.book.specs.declared.Book.{Book}
+use Rattle.book.specs.Book.{mostStops, startsOf, standsOf, requestsOf, BookArrays, freshBook}
+use Rattle.dispatch.specs.declared.insert.Pick.{Pick}
+use Rattle.dispatch.specs.declared.insert.Pick.the-variants.{Least}
+use Rattle.dispatch.specs.Insertion.{Asked, Kept, Answered, DayAnswered}
+use Rattle.dispatch.specs.Legs.{LegTable}
+use Rattle.dispatch.specs.Serving.{unserved, nth, DayFigures, servedDay}
+use Rattle.dispatch.proofs.Carried.{sound-kept}
+use Rattle.book.proofs.FreshBook.{fresh-sound}
+use Rattle.book.proofs.Sound.{Fits, placed, Sound, book-sound, sound-fits}
+use Rattle.dispatch.proofs.Roads.{sound-asked}
+
+-- ---- call by call
+
+module _ (n : ℕ) (d : ℕ → ℕ → ℕ) (starts requests stands₀ cranes₀ metres₀ leasts₀ : List ℕ) where
+  -- the figures of all calls
+  abbrev pub whole : List Served
+  whole = serve d n starts [] stands₀ requests
+
+  -- i calls are served: the day is under way, what is left of it is what is still to come, and the figures so far are noted
+  pub record Running (stands plan : List ℕ) (weights : List ℤ) (costs cranes metres leasts : List ℕ) (driven i : ℕ) : Type 0 where
+    pub kept : Kept n d starts (take i requests) stands plan weights costs
+    pub ahead : drop i whole ≡ serve d n starts (take i requests) stands (drop i requests)
+    pub sent : Filled (λ j. nth whole j .crane) cranes₀ (length requests) cranes i
+    pub drives : Filled (λ j. nth whole j .metres) metres₀ (length requests) metres i
+    pub works : Filled (λ j. nth whole j .least) leasts₀ (length requests) leasts i
+    pub sum : driven ≡ sumBelow i (λ j. nth whole j .metres)
+
+  pub run-begun : {plan : List ℕ} {weights : List ℤ} {costs : List ℕ} → Kept n d starts [] stands₀ plan weights costs
+      → Running stands₀ plan weights costs cranes₀ metres₀ leasts₀ 0 0
+  unfolding sumBelow
+  run-begun k = record {
+    kept = k;
+    ahead = refl;
+    sent = fill-begun _ _ _;
+    drives = fill-begun _ _ _;
+    works = fill-begun _ _ _;
+    sum = refl;
+  }
+
+  module _ {stands plan : List ℕ} {weights : List ℤ} {costs cranes metres leasts : List ℕ} {driven i : ℕ}
+      (run : Running stands plan weights costs cranes metres leasts driven i) where
+    module _ (lt : i < length requests) where
+      abbrev r : ℕ
+      r = getD requests i 0
+
+      abbrev calls : List ℕ
+      calls = take i requests
+
+      -- the next call, and those after it
+      left : drop i whole ≡ served d n starts calls stands r
+          ∷ serve d n starts (calls ++ (r ∷ [])) (moved stands r (choice d n starts calls stands r)) (drop (i + 1) requests)
+      unfolding serve
+      left = run .ahead ∙ rw (drop-cons requests i 0 lt, add-one i)
+
+      next : nth whole i ≡ served d n starts calls stands r
+      next = rw (add-zero i) at (sym (getD-drop i whole 0 unserved)) ∙ ap (λ (l : List Served). nth l 0) left
+
+      pub run-turned : length requests ≤ length cranes₀ → length requests ≤ length metres₀ → length requests ≤ length leasts₀
+          → {told : Served} {stands' plan' : List ℕ} {weights' : List ℤ} {costs' : List ℕ}
+          → Answered n d starts calls stands r Least told stands' plan' weights' costs'
+          → Running stands' plan' weights' costs' (set cranes i (told .crane)) (set metres i (told .metres)) (set leasts i (told .least))
+          (driven + told .metres) (i + 1)
+      run-turned long long' long'' {told} answer =
+          let same : told ≡ nth whole i = answer .figures ∙ ap (λ (s : ℕ). servedBy d n starts s calls stands r) (answer .chosen) ∙ sym next in
+          let on : take (i + 1) requests ≡ calls ++ (r ∷ []) = rw (add-one i) (take-suc requests i 0 lt) in
+          record {
+            kept = rw on (answer .kept);
+            ahead = sym (drop-drop 1 i whole) ∙ ap (λ (l : List Served). drop 1 l) left ∙ rw (on, answer .there, answer .chosen);
+            sent = fill-turned _ _ _ _ _ _ long (run .sent) lt (ap (λ (s : Served). s .crane) same);
+            drives = fill-turned _ _ _ _ _ _ long' (run .drives) lt (ap (λ (s : Served). s .metres) same);
+            works = fill-turned _ _ _ _ _ _ long'' (run .works) lt (ap (λ (s : Served). s .least) same);
+            sum = rw (run .sum, ap (λ (s : Served). s .metres) same) (sym (sum-last i _));
+          }
+
+    pub run-ended : length requests ≤ i → DayAnswered (length requests) whole cranes₀ metres₀ leasts₀ cranes metres leasts driven
+    run-ended le = record {
+      sent = fill-ended _ _ _ _ _ (run .sent) le;
+      drives = fill-ended _ _ _ _ _ (run .drives) le;
+      costs = fill-ended _ _ _ _ _ (run .works) le;
+      sum = rw (le-antisymm le (run .sent .most)) (run .sum);
+    }
+
+-- the number of the crane sent
+pub crane-few : {n : ℕ} {d : ℕ → ℕ → ℕ} {starts calls stands plan : List ℕ} {weights : List ℤ} {costs : List ℕ}
+    → Kept n d starts calls stands plan weights costs → {r : ℕ} {pick : Pick} {told : Served} {stands' plan' : List ℕ} {weights' : List ℤ}
+    {costs' : List ℕ} → Answered n d starts calls stands r pick told stands' plan' weights' costs' → told .crane < mostCranes
+crane-few kept answer =
+    let below = answer .crane in
+    let many = kept .standing .cranes in
+    let few = kept .asked .cranes in
+    omega arith
+
+-- ---- a day that is accepted, with its fresh book
+
+-- no refusal applies to the day, the book is its fresh one, and the arrays have the lengths of their types
+pub record FreshDay (day : Day) (t : Table) (book : Book) : Type 0 where
+  pub none : dayRefusal day t ≡ 0
+  pub lengths : DayArrays day
+  pub fresh : book ≡ freshBook (day .cranes) (day .starts)
+  pub arrays : BookArrays book
+  pub plan : length (book .plan) ≡ mostStops
+  pub weights : length (book .weights) ≡ mostStops
+
+module _ {day : Day} {t : Table} {book : Book} (given : FreshDay day t book) where
+  tests : Tested day t
+  tests = day-tested day t (given .none)
+
+  pub day-sound : Sound book (day .places) t
+  day-sound = book-sound (rw (given .fresh) (fresh-sound day t (given .lengths) (given .none)))
+
+  pub day-fits : Fits book
+  day-fits = sound-fits (given .arrays) day-sound
+
+  pub calls-fit : day .calls ≤ length (day .requests)
+  calls-fit = enough-requests day (given .lengths) (tests .counts .calls)
+
+  pub calls-long : length (dayRequests day) ≡ day .calls
+  calls-long = length-requests day (given .lengths) (tests .counts .calls)
+
+  pub day-called : (i : ℕ) → i < length (dayRequests day) → getD (dayRequests day) i 0 < day .places
+  day-called = stop-below (day .places) (dayRequests day) (tests .requests)
+
+  pub day-asked : Asked (day .places) (startsOf book) (dayRequests day)
+  day-asked =
+      let s = sound-asked (given .arrays) day-sound in
+      record {
+        day = record { crane = s .day .crane; started = s .day .started; called = placed (day .places) (dayRequests day) (tests .requests) };
+        cranes = s .cranes;
+        few = rw calls-long (tests .counts .calls);
+      }
+
+  no-calls : requestsOf book ≡ []
+  unfolding freshBook
+  no-calls = rw (given .fresh)
+
+  pub day-kept : {costs : List ℕ} → mostStops * mostStops ≤ length costs
+      → LegTable (entry (metresOf t)) (startsOf book) (requestsOf book) (standsOf book) costs
+      → Kept (day .places) (metresOf t) (startsOf book) [] (standsOf book) (book .plan) (book .weights) costs
+  day-kept long table =
+      rw no-calls at (sound-kept (given .arrays) day-sound (omega (arith, given .plan)) (omega (arith, given .weights)) long table)
+
+  -- each crane stands at its start
+  at-starts : startsOf book ≡ dayStarts day
+  unfolding freshBook
+  at-starts = rw (given .fresh) (take-kept mostCranes (day .cranes) (day .starts) 0 (enough-starts day (given .lengths) (tests .counts .cranes)))
+
+  at-stands : standsOf book ≡ startsOf book
+  unfolding freshBook
+  at-stands = rw (given .fresh)
+
+  -- what the calls give together, with the floor
+  pub day-figures : {sent metres leasts : List ℕ} {driven low : ℕ}
+      → DayAnswered (length (dayRequests day)) (serve (metresOf t) (day .places) (startsOf book) [] (standsOf book) (dayRequests day))
+      (replicate mostCalls 0) (replicate mostCalls 0) (replicate mostCalls 0) sent metres leasts driven
+      → low ≡ floor (metresOf t) (day .places) (startsOf book) (dayRequests day)
+      → _≡_ {A = DayFigures}
+      (record { number = 0; calls = day .calls; cranes = sent; metres = metres; leasts = leasts; driven = driven; floor = low })
+      (servedDay day t)
+  unfolding servedDay
+  day-figures told least =
+      rw (given .none, told .sent, told .drives, told .costs, told .sum, least, at-stands, at-starts, calls-long) (simp drop-replicate)

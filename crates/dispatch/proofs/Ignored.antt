@@ -1,0 +1,112 @@
+-- "Entries past the counts, the road table's included, are ignored on the way in": books that are the same and days that are
+-- the same, with tables that agree between the places, give the same results. Assumes nothing.
+use Prim.Native.Nat.{ℕ, _<_}
+use mathlib.Core.Bool.{true}
+use mathlib.Core.List.{List, []}
+use mathlib.Core.Path.{_≡_, refl, sym, _∙_}
+use borrow.Author.Tests.{ltb-true}
+use lib.Dec.{ltb}
+use lib.IntN.{ℤ, pos}
+use lib.ListN.{length}
+use Rattle.base.proofs.Lists.{padded-same, kept-same}
+use Rattle.base.proofs.Numbers.{then-zero, first-of, told-alike}
+use Rattle.road.specs.Table.{Table, metresOf}
+use Rattle.dayfile.specs.declared.Day.{Day}
+use Rattle.dayfile.specs.Day.{mostCranes, mostCalls, stopsRule, dayStarts, dayRequests, SameDay}
+use Rattle.dayfile.proofs.Ignored.{same-refusal}
+use Rattle.dayfile.proofs.Limits.{Tested, day-tested}
+use Rattle.workfunction.specs.Position.{Position}
+use Rattle.workfunction.proofs.Agreement.{work-same, floor-same, served-same, serve-same}
+use Rattle.book.specs.declared.Book.{Book}
+use Rattle.book.specs.Book.{mostStops, startsOf, standsOf, requestsOf, stopsOf, follower, weight, SameBook, bookRefusal}
+use Rattle.book.proofs.Ignored.{past-counts-ignored}
+use Rattle.book.proofs.Sound.{placed, Sound, book-sound}
+use Rattle.dispatch.specs.Serving.{servingRefusal, tidied, Outcome, figuresOf, servedOf, costsOf, servedDay}
+
+-- places that keep their rule, as many as they are
+position : (n : ℕ) (l : List ℕ) → stopsRule n l ≡ true → Position n (length l) l
+position n l rule = record { cranes = refl; placed = placed n l rule }
+
+-- the starts and the stands of a sound book
+module _ {book : Book} {n : ℕ} {t : Table} (s : Sound book n t) where
+  started : Position n (length (startsOf book)) (startsOf book)
+  started = position n (startsOf book) (s .starts)
+
+  standing : Position n (length (standsOf book)) (standsOf book)
+  standing = position n (standsOf book) (s .stands)
+
+-- ---- a book
+
+module _ (a b : Book) (n : ℕ) (t s : Table) (books : SameBook a b)
+    (tables : (u v : ℕ) → u < n → v < n → metresOf t u v ≡ metresOf s u v) where
+  -- the two costs
+  pub same-costs-told : costsOf a n t ≡ costsOf b n s
+  unfolding costsOf
+  same-costs-told =
+      told-alike _≡_ _ _ (past-counts-ignored a b n t s books tables)
+      (λ h.
+      let sound : Sound a n t = book-sound h in
+      let least = work-same tables (started sound) (requestsOf a) (standing sound) in
+      let floor = floor-same tables (started sound) (requestsOf a) in
+      rw (← books .starts, ← books .requests, ← books .stands, least, floor))
+      (λ k. refl)
+
+  -- the book with 0 past its counts
+  pub same-tidied : tidied a ≡ tidied b
+  unfolding tidied
+  same-tidied =
+      let stops : stopsOf a ≡ stopsOf b = rw (books .cranes, books .calls) in
+      λ i. record {
+        cranes = books .cranes i;
+        calls = books .calls i;
+        starts = kept-same mostCranes (a .starts) (b .starts) 0 (books .cranes) (books .starts) i;
+        stands = kept-same mostCranes (a .stands) (b .stands) 0 (books .cranes) (books .stands) i;
+        requests = kept-same mostCalls (a .requests) (b .requests) 0 (books .calls) (books .requests) i;
+        plan = padded-same mostStops (follower (a .plan)) (follower (b .plan)) 0 stops (books .plan) i;
+        weights = padded-same mostStops (weight (a .weights)) (weight (b .weights)) (pos 0) stops (books .weights) i;
+      }
+
+  module _ (r : ℕ) where
+    -- the number of a call
+    pub same-serving : servingRefusal a n t r ≡ servingRefusal b n s r
+    same-serving = rw (past-counts-ignored a b n t s books tables, books .calls)
+
+    -- its figures
+    pub same-figures : servingRefusal a n t r ≡ 0 → figuresOf a n t r ≡ figuresOf b n s r
+    same-figures h =
+        let tested = then-zero (bookRefusal a n t) _ h in
+        let sound : Sound a n t = book-sound (tested .0) in
+        let asked = ltb-true r n (first-of (ltb r n) 4 _ (tested .1) .0) in
+        rw (← books .starts, ← books .requests, ← books .stands) (served-same tables (started sound) (requestsOf a) (standing sound) asked)
+
+    -- what is told of it, served or refused
+    pub same-call-told : (plan plan' : List ℕ) (weights weights' : List ℤ)
+        → (servedOf a n t r plan weights .number ≡ servedOf b n s r plan' weights' .number)
+        × (servedOf a n t r plan weights .figures ≡ servedOf b n s r plan' weights' .figures)
+    unfolding servedOf
+    same-call-told plan plan' weights weights' =
+        told-alike (λ (x y : Outcome). (x .number ≡ y .number) × (x .figures ≡ y .figures)) _ _ same-serving
+        (λ h. (refl, same-figures h)) (λ k. (refl, refl))
+
+    -- all that serving it gives; the book of a refused call is the caller's, as it was given
+    pub same-outcome : servingRefusal a n t r ≡ 0 → (plan : List ℕ) (weights : List ℤ)
+        → servedOf a n t r plan weights ≡ servedOf b n s r plan weights
+    unfolding servedOf
+    same-outcome h plan weights = rw (h, sym same-serving ∙ h, same-figures h, same-tidied)
+
+-- ---- a day
+
+module _ (a b : Day) (t s : Table) (days : SameDay a b) (tables : (u v : ℕ) → u < b .places → v < b .places → metresOf t u v ≡ metresOf s u v) where
+  -- the served day
+  pub same-day-served : servedDay a t ≡ servedDay b s
+  unfolding servedDay
+  same-day-served =
+      let tests = same-refusal a b t s days tables in
+      told-alike _≡_ _ _ tests
+      (λ h.
+      let tested : Tested b s = day-tested b s (sym tests ∙ h) in
+      let starts = position (b .places) (dayStarts b) (tested .starts) in
+      let all = serve-same tables starts [] starts (dayRequests b) (λ r. placed (b .places) (dayRequests b) (tested .requests)) in
+      let floor = floor-same tables starts (dayRequests b) in
+      rw (days .starts, days .requests, days .places, days .calls, all, floor))
+      (λ k. refl)

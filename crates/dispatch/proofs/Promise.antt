@@ -1,0 +1,133 @@
+-- The third promise: what the two costs of a sound book, the figures of a served call and those of a served day are the least of:
+-- of every movement and of every rearrangement, several cranes at a time included. Assumes nothing.
+use Prim.Native.Nat.{ℕ, suc, _+_, _<_}
+use mathlib.Core.List.{List, [], List·Memᴰ·not-nil}
+use mathlib.Core.Path.{_≡_, refl, sym, _∙_}
+use borrow.Author.Tests.{ltb-true}
+use lib.Dec.{ltb}
+use lib.ListN.{length, getD, take}
+use Rattle.base.specs.Lists.{upTo}
+use Rattle.base.proofs.Lists.{getD-padded, take-padded, take-upTo}
+use Rattle.base.proofs.Numbers.{then-zero, first-of}
+use Rattle.road.specs.Table.{Table, metresOf}
+use Rattle.road.proofs.Surveyed.{surveyed-metric}
+use Rattle.dayfile.specs.declared.Day.{Day}
+use Rattle.dayfile.specs.Day.{mostCranes, mostCalls, dayStarts, dayRequests, DayArrays, dayRefusal}
+use Rattle.dayfile.proofs.Limits.{Tested, day-tested, enough-starts, length-starts, length-requests}
+use Rattle.workfunction.specs.Choice.{moveSum, rearrangementSum}
+use Rattle.workfunction.specs.Least.{IsLeast}
+use Rattle.workfunction.specs.Movement.{Instance, Serves, LeastTo, LeastOfAll, work, floor}
+use Rattle.workfunction.specs.Plan.{planCost, legCost}
+use Rattle.workfunction.specs.Serving.{servedBy, standsAfter}
+use Rattle.workfunction.proofs.Choice.{choice-least}
+use Rattle.workfunction.proofs.Movement.{work-least, floor-least, instance-first, work-none, floor-none}
+use Rattle.workfunction.proofs.Position.{distance-self}
+use Rattle.workfunction.proofs.Serving.{serve-least}
+use Rattle.book.specs.declared.Book.{Book}
+use Rattle.book.specs.Book.{startsOf, standsOf, requestsOf, stopsOf, follower, BookArrays, bookRefusal, freshBook}
+use Rattle.dispatch.specs.Serving.{servingRefusal, unserved, figuresOf, costsOf, servedDay}
+use Rattle.book.proofs.FreshBook.{fresh-sound}
+use Rattle.book.proofs.Sound.{placed, Sound, book-sound, sound-metric, sound-instance, sound-standing, sound-work}
+
+-- ---- a book
+
+module _ {book : Book} (arrays : BookArrays book) (n : ℕ) (t : Table) where
+  module _ (accepted : bookRefusal book n t ≡ 0) where
+    rules : Sound book n t
+    rules = book-sound accepted
+
+    least-is : costsOf book n t .least ≡ work (metresOf t) n (startsOf book) (requestsOf book) (standsOf book)
+    unfolding costsOf
+    least-is = rw accepted
+
+    floor-is : costsOf book n t .floor ≡ floor (metresOf t) n (startsOf book) (requestsOf book)
+    unfolding costsOf
+    floor-is = rw accepted
+
+    -- "the kept plan's cost is exactly the least reported"
+    pub least-kept : planCost (stopsOf book) (legCost (metresOf t) (startsOf book) (requestsOf book) (standsOf book)) (follower (book .plan)) ≡ costsOf book n t .least
+    least-kept = sound-work arrays n t accepted ∙ sym least-is
+
+    -- "some movement (starts, a crane at each call in turn, present stands) costs that, and every other, several cranes at a time
+    -- included, costs at least as much"
+    pub book-least : LeastTo (metresOf t) n (startsOf book) (requestsOf book) (standsOf book) (costsOf book n t .least)
+    book-least = rw least-is (work-least (metresOf t) (sound-instance arrays rules) (standsOf book))
+
+    -- "The floor likewise."
+    pub book-floor : LeastOfAll (metresOf t) n (startsOf book) (requestsOf book) (costsOf book n t .floor)
+    book-floor = rw floor-is (floor-least (metresOf t) (sound-instance arrays rules))
+
+  -- "No rearrangement with a crane at the next call beats the single move chosen", whose sum is the least after it and the drive
+  pub call-least : (r : ℕ) → servingRefusal book n t r ≡ 0
+      → IsLeast (Serves n (length (startsOf book)) r) (rearrangementSum (metresOf t) n (startsOf book) (requestsOf book) (standsOf book) r)
+      (figuresOf book n t r .least + figuresOf book n t r .metres)
+  unfolding servedBy moveSum
+  call-least r accepted =
+      let tested = then-zero (bookRefusal book n t) _ accepted in
+      let s : Sound book n t = book-sound (tested .0) in
+      let asked = ltb-true r n (first-of (ltb r n) 4 _ (tested .1) .0) in
+      choice-least (sound-metric s) (sound-instance arrays s) (sound-standing arrays s) asked
+
+-- ---- a served day
+
+module _ (day : Day) (t : Table) (arrays : DayArrays day) (accepted : dayRefusal day t ≡ 0) where
+  tests : Tested day t
+  tests = day-tested day t accepted
+
+  day-instance : Instance (day .places) (dayStarts day) (dayRequests day)
+  day-instance = record {
+    crane = rw (length-starts day arrays (tests .counts .cranes)) (tests .counts .crane);
+    started = record { cranes = refl; placed = placed (day .places) (dayStarts day) (tests .starts) };
+    called = placed (day .places) (dayRequests day) (tests .requests);
+  }
+
+  day-floor-is : servedDay day t .floor ≡ floor (metresOf t) (day .places) (dayStarts day) (dayRequests day)
+  unfolding servedDay
+  day-floor-is = rw accepted
+
+  -- the floor that is told is the least cost of all movements that serve the day's calls
+  pub day-floor : LeastOfAll (metresOf t) (day .places) (dayStarts day) (dayRequests day) (servedDay day t .floor)
+  day-floor = rw day-floor-is (floor-least (metresOf t) day-instance)
+
+  -- the first calls, up to call i, and the stands once it is served
+  module _ (i : ℕ) (called : i < day .calls) where
+    abbrev first : List ℕ
+    first = take (suc i) (dayRequests day)
+
+    abbrev stands : List ℕ
+    stands = standsAfter (metresOf t) (day .places) (dayStarts day) [] (dayStarts day) first
+
+    day-least-is : getD (servedDay day t .leasts) i 0 ≡ work (metresOf t) (day .places) (dayStarts day) first stands
+    unfolding servedDay
+    day-least-is =
+        let long = length-requests day arrays (tests .counts .calls) in
+        rw accepted (getD-padded mostCalls (day .calls) _ 0 0 i called
+        ∙ serve-least (metresOf t) (day .places) (dayStarts day) unserved [] (dayStarts day) (dayRequests day) i (rw long called))
+
+    -- the least that is told of call i is the least cost of all movements that serve them and end at those stands
+    pub day-least : LeastTo (metresOf t) (day .places) (dayStarts day) first stands (getD (servedDay day t .leasts) i 0)
+    day-least = rw day-least-is (work-least (metresOf t) (instance-first (suc i) day-instance) stands)
+
+  -- ---- its fresh book
+
+  abbrev fresh : List ℕ
+  fresh = upTo (day .cranes) (λ j. getD (day .starts) j 0)
+
+  at-starts : dayStarts day ≡ fresh
+  at-starts = take-upTo (day .cranes) (day .starts) 0 (enough-starts day arrays (tests .counts .cranes))
+
+  -- the day before its first call
+  uncalled : Instance (day .places) fresh []
+  uncalled = record {
+    crane = rw (← at-starts) (day-instance .crane);
+    started = rw (← at-starts) (day-instance .started);
+    called = λ m. absurd (List·Memᴰ·not-nil m);
+  }
+
+  -- every crane is at its start, and no call has been served
+  pub fresh-costs : costsOf (freshBook (day .cranes) (day .starts)) (day .places) t ≡ record { number = 0; least = 0; floor = 0 }
+  unfolding costsOf freshBook
+  fresh-costs =
+      let laws = surveyed-metric (tests .surveyed) in
+      let least = work-none (metresOf t) (day .places) fresh fresh ∙ distance-self laws (uncalled .started) in
+      rw (fresh-sound day t arrays accepted, take-padded mostCranes (day .cranes) (λ j. getD (day .starts) j 0) 0, least, floor-none laws uncalled)

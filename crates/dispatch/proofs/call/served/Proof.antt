@@ -1,0 +1,201 @@
+-- `dispatch::call::served` meets its contract: the book with 0 past its counts is a day under way, and the book after the call is made of
+-- what serving it gives. Assumes nothing.
+use Prim.Native.Nat.{ℕ, _*_, _<_, _≤_}
+use mathlib.Core.List.{List}
+use mathlib.Core.Path.{_≡_, refl, sym}
+use borrow.Author.Needs.{needs}
+use borrow.Author.Tests.{ltb-true}
+use lib.Dec.{ltb}
+use lib.ListN.{length}
+use native.Mathlib.Omega.{arith}
+use Rattle.base.proofs.Numbers.{unless-zero, then-zero, first-of}
+use Rattle.road.specs.Table.{Table, metresOf, entry}
+use Rattle.dayfile.specs.Day.{mostCalls}
+use Rattle.book.specs.declared.Book.{Book}
+use Rattle.book.specs.Book.{mostStops, startsOf, standsOf, requestsOf, BookArrays, SameBook, bookRefusal}
+use Rattle.dispatch.specs.Insertion.{Kept}
+use Rattle.dispatch.specs.Legs.{LegTable}
+use Rattle.dispatch.specs.Serving.{servingRefusal}
+use Rattle.dispatch.proofs.Carried.{sound-kept, told-after, next}
+use Rattle.book.proofs.Sound.{Fits, fit, starts-long, stands-long, requests-long, Sound, book-sound, sound-fits}
+use Rattle.dispatch.proofs.Roads.{sound-roads}
+use Rattle.dispatch.proofs.tidy.Laws.{tidy-same, tidy-refusal, tidy-plan, tidy-weights}
+use Rattle.dispatch.proofs.call.served.Statement.{statement}
+use Rattle.dispatch.proofs.call.served.Tie as tie
+
+-- what an accepted call says
+record Called (book : Book) (n : ℕ) (t : Table) (r : ℕ) : Type 0 where
+  sound : Sound book n t
+  on : r < n
+  space : book .calls < mostCalls
+
+called : (book : Book) (n : ℕ) (t : Table) (r : ℕ) → servingRefusal book n t r ≡ 0 → Called book n t r
+called book n t r h =
+    let tested = then-zero (bookRefusal book n t) _ h in
+    let asked = first-of (ltb r n) 4 _ (tested .1) in
+    record {
+      sound = book-sound (tested .0);
+      on = ltb-true r n (asked .0);
+      space = ltb-true (book .calls) mostCalls (unless-zero (ltb (book .calls) mostCalls) 6 (asked .1));
+    }
+
+-- the table
+abbrev table : tie.Start → Table
+table s = s .args .table .now
+
+-- the call is accepted
+abbrev Accepted : tie.Start → ℕ → Type 0
+Accepted s n = servingRefusal (s .args .book) n (table s) (s .args .place) ≡ 0
+
+fits : (s : tie.Start) (n : ℕ) → Accepted s n → Fits (s .args .book)
+fits s n h =
+    let k = called _ n (table s) _ h .sound .counts in
+    fit (record { starts = search needs; stands = search needs; requests = search needs }) (k .cranes) (k .calls)
+
+-- the book with 0 past its counts
+abbrev tidy : tie.After-tidy → Book
+tidy t = t .tidy .result
+
+arrays : (t : tie.After-tidy) → BookArrays (tidy t)
+arrays t = record { starts = search needs; stands = search needs; requests = search needs }
+
+plan-long : (t : tie.After-tidy) → length (tidy t .plan) ≡ mostStops
+plan-long t = search needs
+
+weights-long : (t : tie.After-tidy) → length (tidy t .weights) ≡ mostStops
+weights-long t = search needs
+
+same : (t : tie.After-tidy) (n : ℕ) → Accepted (t .before) n → SameBook (tidy t) (t .before .args .book)
+same t n h = tidy-same _ (t .tidy .ensures) (fits (t .before) n h)
+
+tested : (t : tie.After-tidy) (n : ℕ) → let s = t .before in Accepted s n → Called (tidy t) n (table s) (s .args .place)
+tested t n h =
+    let s = t .before in
+    called (tidy t) n (table s) (s .args .place) (rw (tidy-refusal _ (t .tidy .ensures) (fits s n h) n (table s), same t n h .calls) h)
+
+tested-so : (t : tie.After-tidy) → let s = t .before in Called (tidy t) (s .pre .0) (table s) (s .args .place)
+tested-so t = let s = t .before in tested t (s .pre .0) (s .pre .1)
+
+tidy-fits : (t : tie.After-tidy) → Fits (tidy t)
+tidy-fits t = sound-fits (arrays t) (tested-so t .sound)
+
+-- it is a day under way
+kept : {costs : List ℕ} (t : tie.After-tidy) (n : ℕ) → let s = t .before in Accepted s n → mostStops * mostStops ≤ length costs
+    → LegTable (entry (metresOf (table s))) (startsOf (tidy t)) (requestsOf (tidy t)) (standsOf (tidy t)) costs
+    → Kept n (metresOf (table s)) (startsOf (tidy t)) (requestsOf (tidy t)) (standsOf (tidy t)) (tidy t .plan) (tidy t .weights) costs
+kept t n h long legs =
+    sound-kept (arrays t) (tested t n h .sound) (omega (arith, plan-long t)) (omega (arith, weights-long t)) long legs
+
+-- the places at which the arrays are lent
+abbrev at-costs : tie.After-costs → tie.After-tidy
+at-costs c = c .before .before .before .before .before .before .before
+
+abbrev at-fill : tie.After-costs2 → tie.After-tidy
+at-fill c = at-costs (c .before .before)
+
+abbrev at-call : tie.After-costs3 → tie.After-tidy
+at-call c = at-fill (c .before .before .before .before .before .before)
+
+abbrev at-end : tie.After-costs4 → tie.After-tidy
+at-end c = at-call (c .before .before .before .before .before)
+
+tidy-requires : tie.Need-tidy-requires
+tidy-requires c κs = let k = called _ (c .pre .0) (table c) _ (c .pre .1) .sound .counts in (k .cranes, k .calls)
+
+zeros-requires : tie.Need-zeros-requires
+zeros-requires c κs = search needs
+
+slice-aggregate-of-book : tie.Need-slice-aggregate-of-book
+slice-aggregate-of-book c = search needs
+
+of-book-requires : tie.Need-of-book-requires
+of-book-requires c κs = let k = tested-so (at-costs c) .sound .counts in (k .cranes, (k .calls, search needs))
+
+array-share-prefix-starts : tie.Need-array-share-prefix-starts
+array-share-prefix-starts c = tidy-fits (at-fill c) .starts
+
+slice-aggregate-serve-call : tie.Need-slice-aggregate-serve-call
+slice-aggregate-serve-call c = sym (starts-long (tidy-fits (at-fill (c .before))))
+
+array-share-prefix-requests : tie.Need-array-share-prefix-requests
+array-share-prefix-requests c = tidy-fits (at-fill (c .before)) .requests
+
+slice-aggregate-serve-call-2 : tie.Need-slice-aggregate-serve-call-2
+slice-aggregate-serve-call-2 c = sym (requests-long (tidy-fits (at-fill (c .before .before))))
+
+array-borrow-prefix-stands : tie.Need-array-borrow-prefix-stands
+array-borrow-prefix-stands c = tidy-fits (at-fill (c .before .before)) .stands
+
+slice-aggregate-serve-call-3 : tie.Need-slice-aggregate-serve-call-3
+slice-aggregate-serve-call-3 c = sym (stands-long (tidy-fits (at-fill (c .before .before .before))))
+
+slice-aggregate-serve-call-4 : tie.Need-slice-aggregate-serve-call-4
+slice-aggregate-serve-call-4 c = sym (plan-long (at-fill (c .before .before .before .before)))
+
+slice-aggregate-serve-call-5 : tie.Need-slice-aggregate-serve-call-5
+slice-aggregate-serve-call-5 c = sym (weights-long (at-fill (c .before .before .before .before .before)))
+
+slice-aggregate-serve-call-6 : tie.Need-slice-aggregate-serve-call-6
+slice-aggregate-serve-call-6 c = search needs
+
+serve-call-requires : tie.Need-serve-call-requires
+serve-call-requires c κs =
+    let t = at-call c in
+    let s = t .before in
+    let k = tested-so t in
+    let f = c .before .before .before .before .before .before .before .of-book .ensures in
+    let day = kept t (s .pre .0) (s .pre .1) (search needs) f in
+    record {
+      places = s .pre .0;
+      metres = metresOf (table s);
+      roads = sound-roads (k .sound);
+      kept = day;
+      on = k .on;
+      space = rw (requests-long (tidy-fits t)) (k .space);
+      ends = λ e h. h;
+    }
+
+mul-requests : tie.Need-mul-requests
+mul-requests c = omega (arith, tested-so (at-end c) .space)
+
+array-write-requests : tie.Need-array-write-requests
+array-write-requests c = tested-so (at-end c) .space
+
+add-t30 : tie.Need-add-t30
+add-t30 c = omega (arith, tested-so (at-end c) .space)
+
+returns : tie.Need-returns
+returns c = λ n h.
+    let t = at-end c in
+    let k = tested t n h in
+    let e = t .tidy .ensures in
+    let a = c .before .before .before .before in
+    let f = a .before .before .before .before .before .before .before .before .of-book .ensures in
+    let day = kept t n h (search needs) f in
+    let answered = a .serve-call .ensures .answered n (metresOf (table (t .before))) (sound-roads (k .sound)) day (k .on) in (
+      told-after (arrays t) (k .sound) (k .on) (k .space) answered refl e (same t n h),
+      next (arrays t) (k .sound) (k .on) (k .space) answered (a .serve-call .ensures .unmoved) (tidy-plan _ e) (tidy-weights _ e),
+    )
+
+pub served-spec : {M : Type 1} → statement M
+served-spec =
+    tie.close
+    (tie.spec
+    tidy-requires
+    zeros-requires
+    slice-aggregate-of-book
+    of-book-requires
+    array-share-prefix-starts
+    slice-aggregate-serve-call
+    array-share-prefix-requests
+    slice-aggregate-serve-call-2
+    array-borrow-prefix-stands
+    slice-aggregate-serve-call-3
+    slice-aggregate-serve-call-4
+    slice-aggregate-serve-call-5
+    slice-aggregate-serve-call-6
+    serve-call-requires
+    mul-requests
+    array-write-requests
+    add-t30
+    returns)

@@ -1,0 +1,26 @@
+-- `dispatch::legs::cost` meets its contract: it reads the leg's place in the table.
+-- Assumes nothing.
+use mathlib.Core.Path.{refl}
+use borrow.Author.Needs.{needs}
+use Rattle.dispatch.specs.Legs.{legAt}
+use Rattle.dispatch.proofs.legs.cost.Statement.{statement}
+use Rattle.dispatch.proofs.legs.cost.Tie as tie
+
+mul-result : tie.Need-mul-result
+mul-result c = search needs
+
+add-result : tie.Need-add-result
+add-result c = search needs
+
+mul-result-2 : tie.Need-mul-result-2
+mul-result-2 c = search needs
+
+shared-slice-read-result : tie.Need-shared-slice-read-result
+shared-slice-read-result c = search needs
+
+returns : tie.Need-returns
+unfolding legAt
+returns c = refl
+
+pub cost-spec : {M : Type 1} → statement M
+cost-spec = tie.close (tie.spec mul-result add-result mul-result-2 shared-slice-read-result returns)

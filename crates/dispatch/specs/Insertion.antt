@@ -1,0 +1,197 @@
+-- One more call taken into a plan with its weights, for serving and for the floor alike, and a day that is under way: no public
+-- contract cites these. The new call has the number N.
+use Prim.Native.Nat.{ℕ, _+_, _*_, _<_, _≤_}
+use mathlib.Core.Bool.{true}
+use mathlib.Core.List.{List, [], _∷_, _++_}
+use mathlib.Core.Path.{_≡_}
+use lib.IntN.{ℤ}
+use lib.ListN.{length, getD, set, drop}
+use Rattle.base.specs.Lists.{upTo}
+use Rattle.base.specs.Metric.{Metric}
+use Rattle.road.specs.Table.{mostMetres}
+use Rattle.dayfile.specs.Day.{mostCranes, mostCalls}
+use Rattle.workfunction.specs.Choice.{preferred, moved, choice}
+use Rattle.workfunction.specs.Lists.{sumBelow}
+use Rattle.workfunction.specs.Movement.{Instance}
+use Rattle.workfunction.specs.NetCost.{Flipped}
+use Rattle.workfunction.specs.Plan.{planRule, vouchRule, stops, legCost}
+use Rattle.workfunction.specs.Position.{Position}
+use Rattle.workfunction.specs.Serving.{Served, servedBy}
+use Rattle.book.specs.Book.{mostStops, follower, weight, rangeRule}
+use Rattle.dispatch.specs.declared.insert.Pick.{Pick}
+use Rattle.dispatch.specs.declared.insert.Pick.the-variants.{Least, End}
+use Rattle.dispatch.specs.Legs.{legAt, LegTable}
+use Rattle.dispatch.specs.Search.{at, netBase, netOf, Sized, Certified, Witnessed, Totalled, Searched, Reweighed}
+use Rattle.dispatch.specs.Serving.{nth}
+
+-- of each end below k: the stop that it follows, and what it costs to free it
+pub record Freed (k N : ℕ) (f net before netEnd : ℕ → ℕ) : Type 0 where
+  pub stop : (e : ℕ) → e < k → before e < N
+  pub follows : (e : ℕ) → e < k → f (before e) ≡ e
+  pub costs : (e : ℕ) → e < k → netEnd e ≡ net (before e)
+
+-- what the net costs of the ends are given: a plan of N stops, its totals, and room for the ends
+pub record NetsGiven (k N : ℕ) (plan costs totals nets before : List ℕ) : Type 0 where
+  pub few : N < mostStops
+  pub cranes : k ≤ N
+  pub netted : k ≤ length nets
+  pub freed : k ≤ length before
+  pub planLong : N < length plan
+  pub totalsLong : N < length totals
+  pub costed : mostStops * mostStops ≤ length costs
+  pub planned : planRule k N (follower plan) ≡ true
+  pub totalled : Totalled N (follower plan) (legAt costs) (at totals)
+
+-- what the choice of an end is given: ends with their net costs
+pub record ChoiceGiven (k N : ℕ) (nets costs : List ℕ) : Type 0 where
+  pub crane : 0 < k
+  pub cranes : k ≤ mostCranes
+  pub few : N < mostStops
+  pub netted : k ≤ length nets
+  pub costed : mostStops * mostStops ≤ length costs
+  pub low : (e : ℕ) → e < k → at nets e ≤ netBase + mostMetres
+
+-- of the ends below k the one of the least net cost and way from N together; among equals of the least way; then of the lowest
+-- number
+abbrev pub leastEnd : ℕ → ℕ → (ℕ → ℕ) → (ℕ → ℕ → ℕ) → ℕ
+leastEnd k N netEnd c = preferred ((λ e. netEnd e + c N e) ∷ c N ∷ []) k
+
+-- the end that is picked: the least one, or a given one
+abbrev pub picked : Pick → ℕ → ℕ
+picked Least e = e
+picked (End s) e = s
+
+-- what the search delivers of the ends: of each the stop that it follows and its net cost
+pub record Found (k N : ℕ) (f : ℕ → ℕ) (c : ℕ → ℕ → ℕ) (total parent rank before netEnd : ℕ → ℕ) : Type 0 where
+  pub searched : Searched k N f c total parent rank
+  pub freed : Freed k N f (netOf f c total) before netEnd
+
+-- what taking in the call N for the end s delivers: the plan g with s freed, and weights y, the negated net costs
+pub record Inserted (k N : ℕ) (f : ℕ → ℕ) (c : ℕ → ℕ → ℕ) (s : ℕ) (g : ℕ → ℕ) (old y : ℕ → ℤ) : Type 0 where
+  pub total : ℕ → ℕ
+  pub parent : ℕ → ℕ
+  pub rank : ℕ → ℕ
+  pub before : ℕ → ℕ
+  pub netEnd : ℕ → ℕ
+  pub found : Found k N f c total parent rank before netEnd
+  pub end : s < k
+  pub flipped : Flipped N f parent (before s) g
+  pub reweighed : Reweighed N f (netOf f c total) old y
+
+-- entries past N are as they were
+pub record Unmoved (N : ℕ) (plan : List ℕ) (weights : List ℤ) (plan' : List ℕ) (weights' : List ℤ) : Type 0 where
+  pub followers : (p : ℕ) → N < p → follower plan' p ≡ follower plan p
+  pub weighed : (b : ℕ) → N < b → weight weights' b ≡ weight weights b
+
+-- what the search for the ends of a call is given: a plan of N stops with weights that vouch for it, and room for the call
+pub record FindGiven (k N : ℕ) (plan : List ℕ) (weights : List ℤ) (costs totals parents ranks nets before : List ℕ) : Type 0 where
+  pub cranes : k ≤ N
+  pub netted : k ≤ length nets
+  pub freed : k ≤ length before
+  pub sized : Sized N plan costs totals parents ranks
+  pub witnessed : Witnessed k N plan weights costs
+
+-- what taking in a call is given
+pub record InsertGiven (k N : ℕ) (pick : Pick) (plan : List ℕ) (weights : List ℤ) (costs : List ℕ) : Type 0 where
+  pub crane : 0 < k
+  pub cranes : k ≤ mostCranes
+  pub stops : k ≤ N
+  pub ends : (e : ℕ) → e < k → picked pick e < k
+  pub planLong : mostStops ≤ length plan
+  pub weightsLong : mostStops ≤ length weights
+  pub costsLong : mostStops * mostStops ≤ length costs
+  pub witnessed : Witnessed k N plan weights costs
+
+-- the call is taken in for the end s, the one that is picked; entries past N are as they were
+pub record CallInserted (k N : ℕ) (pick : Pick) (costs plan : List ℕ) (weights : List ℤ) (s : ℕ) (plan' : List ℕ) (weights' : List ℤ) : Type 0 where
+  pub taken : Inserted k N (follower (set plan N N)) (legAt costs) s (follower plan') (weight weights) (weight weights')
+  pub chosen : s ≡ picked pick (leastEnd k N (taken .netEnd) (legAt costs))
+  pub unmoved : Unmoved N plan weights plan' weights'
+
+-- what taking in all calls is given: a plan without calls, with weights that vouch for it
+pub record AllGiven (k n : ℕ) (plan : List ℕ) (weights : List ℤ) (costs : List ℕ) : Type 0 where
+  pub crane : 0 < k
+  pub cranes : k ≤ mostCranes
+  pub stops : k ≤ n
+  pub few : n ≤ mostStops
+  pub planLong : mostStops ≤ length plan
+  pub weightsLong : mostStops ≤ length weights
+  pub costsLong : mostStops * mostStops ≤ length costs
+  pub short : (p b : ℕ) → p < n → b < n → legAt costs p b ≤ mostMetres
+  pub certified : Certified k k plan weights costs
+
+-- metres d between n places, and what is read off their table
+pub record Roads (n : ℕ) (d read : ℕ → ℕ → ℕ) : Type 0 where
+  pub laws : Metric n d
+  pub short : (u v : ℕ) → u < n → v < n → d u v ≤ mostMetres
+  pub reads : (u v : ℕ) → u < n → v < n → read u v ≡ d u v
+
+-- a day within the limits of a book
+pub record Asked (n : ℕ) (starts calls : List ℕ) : Type 0 where
+  pub day : Instance n starts calls
+  pub cranes : length starts ≤ mostCranes
+  pub few : length calls ≤ mostCalls
+
+-- what the floor is given: a day over some places and metres
+pub record FloorGiven (read : ℕ → ℕ → ℕ) (starts calls : List ℕ) : Type 0 where
+  pub places : ℕ
+  pub metres : ℕ → ℕ → ℕ
+  pub roads : Roads places metres read
+  pub asked : Asked places starts calls
+
+-- a day under way: a plan to the stands with weights that vouch for it, and the table of leg costs
+pub record Kept (n : ℕ) (d : ℕ → ℕ → ℕ) (starts calls stands plan : List ℕ) (weights : List ℤ) (costs : List ℕ) : Type 0 where
+  pub asked : Asked n starts calls
+  pub standing : Position n (length starts) stands
+  pub planned : planRule (length starts) (stops starts calls) (follower plan) ≡ true
+  pub ranged : rangeRule (stops starts calls) (weight weights) ≡ true
+  pub vouched : vouchRule (length starts) (stops starts calls) (follower plan) (legCost d starts calls stands) (weight weights) ≡ true
+  pub table : LegTable d starts calls stands costs
+  pub planLong : mostStops ≤ length plan
+  pub weightsLong : mostStops ≤ length weights
+  pub costsLong : mostStops * mostStops ≤ length costs
+
+-- a call at r served by a crane of the stands: the figures, and the day that is under way after it
+pub record Answered (n : ℕ) (d : ℕ → ℕ → ℕ) (starts calls stands : List ℕ) (r : ℕ) (pick : Pick) (told : Served) (stands' plan' : List ℕ)
+    (weights' : List ℤ) (costs' : List ℕ) : Type 0 where
+  pub crane : told .crane < length stands
+  pub chosen : told .crane ≡ picked pick (choice d n starts calls stands r)
+  pub figures : told ≡ servedBy d n starts (told .crane) calls stands r
+  pub there : stands' ≡ moved stands r (told .crane)
+  pub kept : Kept n d starts (calls ++ (r ∷ [])) stands' plan' weights' costs'
+
+-- what serving a call at r is given: a day under way over some places and metres, and room for the call
+pub record CallGiven (read : ℕ → ℕ → ℕ) (starts calls : List ℕ) (r : ℕ) (pick : Pick) (stands plan : List ℕ) (weights : List ℤ) (costs : List ℕ) : Type 0 where
+  pub places : ℕ
+  pub metres : ℕ → ℕ → ℕ
+  pub roads : Roads places metres read
+  pub kept : Kept places metres starts calls stands plan weights costs
+  pub on : r < places
+  pub space : length calls < mostCalls
+  pub ends : (e : ℕ) → e < length starts → picked pick e < length starts
+
+-- what serving it delivers, over all places and metres that it may be a day over
+pub record CallServed (read : ℕ → ℕ → ℕ) (starts calls : List ℕ) (r : ℕ) (pick : Pick) (stands plan : List ℕ) (weights : List ℤ) (costs : List ℕ)
+    (told : Served) (stands' plan' : List ℕ) (weights' : List ℤ) (costs' : List ℕ) : Type 0 where
+  pub answered : (n : ℕ) (d : ℕ → ℕ → ℕ) → Roads n d read → Kept n d starts calls stands plan weights costs → r < n
+      → Answered n d starts calls stands r pick told stands' plan' weights' costs'
+  pub unmoved : Unmoved (stops starts calls) plan weights plan' weights'
+
+-- m calls served: the figures of each in its array, whose rest is as it was, and the sum of the drives
+pub record DayAnswered (m : ℕ) (all : List Served) (cranes metres leasts cranes' metres' leasts' : List ℕ) (driven : ℕ) : Type 0 where
+  pub sent : cranes' ≡ upTo m (λ i. nth all i .crane) ++ drop m cranes
+  pub drives : metres' ≡ upTo m (λ i. nth all i .metres) ++ drop m metres
+  pub costs : leasts' ≡ upTo m (λ i. nth all i .least) ++ drop m leasts
+  pub sum : driven ≡ sumBelow m (λ i. nth all i .metres)
+
+-- what serving all calls of a day is given: its cranes before the first call, over some places and metres, and room for the figures
+pub record DayGiven (read : ℕ → ℕ → ℕ) (starts requests stands plan : List ℕ) (weights : List ℤ) (costs cranes metres leasts : List ℕ) : Type 0 where
+  pub places : ℕ
+  pub between : ℕ → ℕ → ℕ
+  pub roads : Roads places between read
+  pub kept : Kept places between starts [] stands plan weights costs
+  pub called : (i : ℕ) → i < length requests → getD requests i 0 < places
+  pub few : length requests ≤ mostCalls
+  pub sent : length requests ≤ length cranes
+  pub driven : length requests ≤ length metres
+  pub costed : length requests ≤ length leasts

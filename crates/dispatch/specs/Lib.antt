@@ -1,0 +1,4 @@
+pub mod Legs
+pub mod Search
+pub mod Serving
+pub mod Insertion

@@ -1,0 +1,68 @@
+// A whole day: what is told of it, refused or served.
+use crate::ServedDay;
+use crate::floor;
+use crate::legs;
+use crate::serve;
+use base::Verdict;
+use book::Book;
+use dayfile::Day;
+use road::Table;
+ghost use mathlib.Core.Path.{_≡_};
+ghost use Rattle.base.specs.Numbers.{numberOf};
+ghost use Rattle.dayfile.specs.Day.{dayRefusal};
+ghost use Rattle.book.specs.Book.{freshBook};
+ghost use Rattle.dispatch.specs.Serving.{dayFigures, noFigures, servedDay};
+
+// A day that is refused.
+pub(crate) fn refused(verdict: Verdict) -> ServedDay
+    ensures { λ r. ⌜ dayFigures r ≡ noFigures (numberOf verdict) ⌝ }
+{
+    ServedDay {
+        verdict,
+        calls: 0,
+        cranes: [0; Book::CALLS],
+        metres: [0; Book::CALLS],
+        leasts: [0; Book::CALLS],
+        driven: 0,
+        floor: 0,
+    }
+}
+
+// A day that is accepted, from its fresh book.
+pub(crate) fn served(day: Day, fresh: Book, table: &Table) -> ServedDay
+    requires { ⌜ (dayRefusal day (now table) ≡ 0) × (fresh ≡ freshBook (day .cranes) (day .starts)) ⌝ }
+    ensures { λ r. ⌜ dayFigures r ≡ servedDay day (now (table .entry)) ⌝ }
+{
+    let starts = fresh.starts;
+    let requests = day.requests;
+    let mut stands = fresh.stands;
+    let mut plan = fresh.plan;
+    let mut weights = fresh.weights;
+    let mut costs = legs::zeros();
+    let mut sent = [0; Book::CALLS];
+    let mut metres = [0; Book::CALLS];
+    let mut leasts = [0; Book::CALLS];
+    legs::of_book(fresh, table, &mut costs[..]);
+    let driven = serve::serve_all(
+        table,
+        &starts[..fresh.cranes],
+        &requests[..day.calls],
+        &mut stands[..fresh.cranes],
+        &mut plan[..],
+        &mut weights[..],
+        &mut costs[..],
+        &mut sent[..],
+        &mut metres[..],
+        &mut leasts[..],
+    );
+    let floor = floor::floor(table, &starts[..fresh.cranes], &requests[..day.calls]);
+    ServedDay {
+        verdict: Verdict::Accepted,
+        calls: day.calls,
+        cranes: sent,
+        metres,
+        leasts,
+        driven,
+        floor,
+    }
+}

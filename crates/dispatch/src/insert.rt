@@ -1,0 +1,104 @@
+// One more call taken into a plan and its weights: the search for net costs, the pick of an end, the flip, the new weights.
+use crate::choice;
+use crate::flip;
+use crate::search;
+use crate::weights;
+use book::Book;
+ghost use mathlib.Core.Path.{_≡_};
+ghost use lib.ListN.{set};
+ghost use Rattle.book.specs.Book.{follower};
+ghost use Rattle.dispatch.specs.Legs.{legAt};
+ghost use Rattle.dispatch.specs.Search.{at, Certified};
+ghost use Rattle.dispatch.specs.Insertion.{ChoiceGiven, leastEnd, picked, Found, FindGiven, InsertGiven, CallInserted, AllGiven};
+
+// The end for which a call is taken in: the least one, or a given one.
+pub(crate) enum Pick {
+    Least,
+    End(usize),
+}
+
+// The search for the net costs of the call of the number `new`, which is followed by itself for the moment; and of each end the
+// stop that it follows and the net cost of freeing it.
+fn find(
+    cranes: usize,
+    new: usize,
+    costs: &[u32],
+    weights: &[i64],
+    plan: &mut [u16],
+    totals: &mut [u64],
+    parents: &mut [usize],
+    ranks: &mut [usize],
+    nets: &mut [u64],
+    before: &mut [usize],
+)
+    requires { ⌜ FindGiven cranes new (now plan) (now weights) (now costs) (now totals) (now parents) (now ranks) (now nets) (now before) ⌝ }
+    ensures { λ _. ⌜ (now (plan .exit) ≡ set (now (plan .entry)) new new) × Found cranes new (follower (now (plan .exit))) (legAt (now (costs .entry))) (at (now (totals .exit))) (at (now (parents .exit))) (at (now (ranks .exit))) (at (now (before .exit))) (at (now (nets .exit))) ⌝ }
+{
+    plan[new] = new as u16;
+    search::search(cranes, new, plan, weights, costs, totals, parents, ranks);
+    choice::fill_nets(cranes, new, plan, costs, totals, nets, before);
+}
+
+// The end that is picked.
+fn end(pick: Pick, cranes: usize, new: usize, nets: &[u64], costs: &[u32]) -> usize
+    requires { ⌜ ChoiceGiven cranes new (now nets) (now costs) ⌝ }
+    ensures { λ r. ⌜ r ≡ picked pick (leastEnd cranes new (at (now (nets .entry))) (legAt (now (costs .entry)))) ⌝ }
+{
+    let Pick::End(end) = pick else {
+        return choice::choose(cranes, new, nets, costs);
+    };
+    end
+}
+
+// Takes in the call of the number `new`, and answers the end that now follows it.
+pub(crate) fn insert(
+    cranes: usize,
+    new: usize,
+    pick: Pick,
+    costs: &[u32],
+    plan: &mut [u16],
+    weights: &mut [i64],
+) -> usize
+    requires { ⌜ InsertGiven cranes new pick (now plan) (now weights) (now costs) ⌝ }
+    ensures { λ r. ⌜ CallInserted cranes new pick (now (costs .entry)) (now (plan .entry)) (now (weights .entry)) r (now (plan .exit)) (now (weights .exit)) ⌝ }
+{
+    let mut totals = [0; Book::STOPS];
+    let mut parents = [0; Book::STOPS];
+    let mut ranks = [0; Book::STOPS];
+    let mut nets = [0; Book::CRANES];
+    let mut before = [0; Book::CRANES];
+    find(
+        cranes,
+        new,
+        costs,
+        weights,
+        plan,
+        &mut totals[..],
+        &mut parents[..],
+        &mut ranks[..],
+        &mut nets[..],
+        &mut before[..],
+    );
+    let end = end(pick, cranes, new, &nets[..], costs);
+    weights::renew(new, plan, &totals[..], costs, weights);
+    flip::flip(new, before[end], &parents[..], &ranks[..], plan);
+    end
+}
+
+// Takes in the calls of the numbers from `cranes` up to `stops`, one after another, with ends that stay.
+pub(crate) fn insert_all(
+    cranes: usize,
+    stops: usize,
+    costs: &[u32],
+    plan: &mut [u16],
+    weights: &mut [i64],
+)
+    requires { ⌜ AllGiven cranes stops (now plan) (now weights) (now costs) ⌝ }
+    ensures { λ _. ⌜ Certified cranes stops (now (plan .exit)) (now (weights .exit)) (now (costs .entry)) ⌝ }
+{
+    let mut new = cranes;
+    while new < stops {
+        insert(cranes, new, Pick::Least, costs, plan, weights);
+        new += 1;
+    }
+}

@@ -1,0 +1,36 @@
+// The cost of a plan, and the list of numbers from which a plan without calls begins.
+use crate::legs;
+ghost use mathlib.Core.List.{_++_};
+ghost use mathlib.Core.Path.{_≡_};
+ghost use Prim.Native.Nat.{_≤_};
+ghost use lib.ListN.{length, drop};
+ghost use Rattle.base.specs.Lists.{upTo};
+ghost use Rattle.workfunction.specs.Plan.{planCost};
+ghost use Rattle.book.specs.Book.{mostStops, follower};
+ghost use Rattle.dispatch.specs.Legs.{legAt, CostGiven};
+
+// Each entry below a count is its own number: without a call, each start is followed by its own end.
+pub(crate) fn fill_own(count: usize, list: &mut [u16])
+    requires { ⌜ (count ≤ mostStops) × (count ≤ length (now list)) ⌝ }
+    ensures { λ _. ⌜ now (list .exit) ≡ upTo count (λ i. i) ++ drop count (now (list .entry)) ⌝ }
+{
+    let mut i = 0;
+    while i < count {
+        list[i] = i as u16;
+        i += 1;
+    }
+}
+
+// The cost of a plan: the sum of the legs from each stop to its follower.
+pub(crate) fn cost(stops: usize, plan: &[u16], costs: &[u32]) -> u64
+    requires { ⌜ CostGiven stops (now plan) (now costs) ⌝ }
+    ensures { λ r. ⌜ r ≡ planCost stops (legAt (now (costs .entry))) (follower (now (plan .entry))) ⌝ }
+{
+    let mut sum = 0;
+    let mut p = 0;
+    while p < stops {
+        sum += legs::cost(costs, p, plan[p] as usize) as u64;
+        p += 1;
+    }
+    sum
+}
