@@ -79,7 +79,7 @@ impl Day {
         if late || (first, second) != self.next_leg || second >= PLACES {
             return Err(3);
         }
-        if metres == 0 || metres > LONGEST_LEG {
+        if metres > LONGEST_LEG {
             return Err(4);
         }
         self.table[first][second] = metres;

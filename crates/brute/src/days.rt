@@ -17,22 +17,22 @@ fn agrees(day: Day, table: &Table) -> bool {
     base::number(verdict) == 8
 }
 
-// All days of a size, which are so many: with legs of at most so many metres, and with so many tables and lists of starts.
+// All days of a size, which are so many: with legs of metres below a bound, and with so many tables and lists of starts.
 fn every(
     before: Tally,
     places: usize,
     cranes: usize,
     calls: usize,
-    longest: u64,
+    bound: u64,
     tables: usize,
     starts: usize,
     days: usize,
 ) -> Tally
-    requires { ⌜ (0 < places) × ((0 < longest) × ((0 < tables) × (0 < starts))) ⌝ }
+    requires { ⌜ (0 < places) × ((0 < bound) × ((0 < tables) × (0 < starts))) ⌝ }
 {
     let mut tally = before;
     for i in 0..days {
-        let table = small::table(small::counted(i % tables), longest, false);
+        let table = small::table(small::counted(i % tables), bound, false);
         let first = small::counted(i / tables % starts);
         let asked = small::counted(i / tables / starts);
         let day = small::day(places, cranes, calls, first, asked, places as u64);
@@ -44,10 +44,10 @@ fn every(
 // Every day of six sizes.
 pub(crate) fn all() -> Tally {
     let one = every(Tally::none(), 1, 1, 6, 1, 1, 1, 1);
-    let two = every(every(one, 2, 2, 6, 2, 2, 4, 512), 2, 3, 4, 3, 3, 8, 384);
+    let two = every(every(one, 2, 2, 6, 3, 3, 4, 768), 2, 3, 4, 4, 4, 8, 512);
     let three = every(two, 3, 1, 3, 3, 27, 3, 2_187);
     every(
-        every(three, 3, 2, 3, 3, 27, 9, 6_561),
+        every(three, 3, 2, 3, 4, 64, 9, 15_552),
         3,
         3,
         2,
@@ -80,13 +80,13 @@ fn counted(drawn: Drawn, tied: bool, agree: bool) -> Drawn {
     }
 }
 
-// So many random days of a size too, with legs of at most so many metres before the shortest ways are taken.
-fn some(before: Drawn, places: usize, cranes: usize, longest: u64, days: usize) -> Drawn
-    requires { ⌜ (0 < places) × (0 < longest) ⌝ }
+// So many random days of a size too, with legs of metres below a bound before the shortest ways are taken.
+fn some(before: Drawn, places: usize, cranes: usize, bound: u64, days: usize) -> Drawn
+    requires { ⌜ (0 < places) × (0 < bound) ⌝ }
 {
     let mut all = before;
     for i in 0..days {
-        let table = small::drawn_table(i, places, longest, false);
+        let table = small::drawn_table(i, places, bound, false);
         let sides = search::day(small::drawn_day(i, places, cranes, 6), &table);
         all = counted(all, sides.tied, sides.agree);
     }
@@ -100,12 +100,12 @@ pub(crate) fn random() -> Drawn {
         tied: Tally::none(),
     };
     let four = some(
-        some(some(none, 5, 4, 2, 120), 5, 4, 1_000, 120),
+        some(some(none, 5, 4, 6, 120), 5, 4, 1_000, 120),
         5,
         4,
         100_000,
         120,
     );
     let fewer = some(some(four, 5, 2, 100, 300), 5, 1, 1_000, 300);
-    some(some(fewer, 4, 3, 3, 300), 3, 4, 2, 300)
+    some(some(fewer, 4, 3, 5, 300), 3, 4, 4, 300)
 }

@@ -1,4 +1,4 @@
-// Days of document 01 with every figure: its edges, case A, its wrong turns and the days that show where a shorter method goes wrong.
+// Days with every figure: document 01's edges and case A, those of paper 1, and days that show where a shorter method goes wrong.
 use crate::search;
 use crate::small;
 use crate::tally::Tally;
@@ -60,8 +60,11 @@ pub(crate) fn all() -> Tally {
     let equal = edge(one, small::three(10, 20, 10), 3, 2, 20, 1, 1);
     // Two cranes at one place.
     let two = edge(equal, small::three(7, 0, 0), 2, 2, 0, 1, 1);
+    // Two gates 0 metres apart: equal sums and equal drives of 0; then a crane at the other gate, and one elsewhere.
+    let gates = edge(two, small::three(0, 5, 5), 3, 2, 1, 1, 0);
+    let other = edge(gates, small::three(0, 5, 5), 3, 2, 12, 1, 0);
     // At the last call equal sums, and the second crane drives less. The ends count: the least cost is above the floor.
-    let ends = edge(two, small::three(1, 2, 2), 3, 2, 2, 3, 101);
+    let ends = edge(other, small::three(1, 2, 2), 3, 2, 2, 3, 101);
     // Steps out of stands count: without them the net costs of the last call are wrong.
     edge(ends, small::three(3, 1, 3), 3, 3, 2, 3, 201)
 }

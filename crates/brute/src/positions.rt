@@ -132,6 +132,19 @@ fn position(code: usize) -> Position {
     ]
 }
 
+// The place at a slot, 0 past the cranes.
+fn digit(cranes: usize, position: Position, slot: usize) -> usize {
+    if slot < cranes { at(position, slot) } else { 0 }
+}
+
+// The code of a position.
+fn code(cranes: usize, position: Position) -> usize {
+    digit(cranes, position, 0) % 5
+        + digit(cranes, position, 1) % 5 * 5
+        + digit(cranes, position, 2) % 5 * 25
+        + digit(cranes, position, 3) % 5 * 125
+}
+
 // Whether a code's position is one of the day, and the one of all its orders in which no place is below the next.
 fn listed(places: usize, code: usize) -> bool {
     let second = code / 5 % 5;
@@ -148,17 +161,10 @@ fn holds(cranes: usize, p: Position, place: u16) -> bool {
     held
 }
 
-// The movements that have not left the starts. Different places are no 0 metres apart, so the starts are the position at no
-// distance from the starts.
-pub(crate) fn begin(table: &Table, size: Size, starts: Position) -> Reached {
+// The movements that have not left the starts. Places are told apart by number: another place may be 0 metres away.
+pub(crate) fn begin(cranes: usize, starts: Position) -> Reached {
     let mut reached = [FAR; POSITIONS];
-    for code in 0..size.codes {
-        if listed(size.places, code) {
-            if distance(table, size, starts, position(code)) == 0 {
-                reached[code % POSITIONS] = 0;
-            }
-        }
-    }
+    reached[code(cranes, starts) % POSITIONS] = 0;
     reached
 }
 

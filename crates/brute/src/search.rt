@@ -66,7 +66,7 @@ pub(crate) fn agreed(table: &Table, size: Size, sides: Sides) -> Sides {
 fn begin(table: &Table, size: Size, book: Book) -> Sides {
     let starts = book.starts;
     let desk = Desk {
-        reached: positions::begin(table, size, starts),
+        reached: positions::begin(size.cranes, starts),
         stands: starts,
         driven: 0,
         floor: 0,

@@ -75,18 +75,18 @@ fn leg(table: Table, from: usize, to: usize, metres: u32) -> Table {
     set(set(table, from, to, metres), to, from, metres)
 }
 
-// Five places with legs of 1 to `longest` metres from a source, or of twice as many.
-pub(crate) fn table(source: Source, longest: u64, twice: bool) -> Table
-    requires { ⌜ 0 < longest ⌝ }
+// Five places with legs from a source, each of metres below a bound or of twice as many.
+pub(crate) fn table(source: Source, bound: u64, twice: bool) -> Table
+    requires { ⌜ 0 < bound ⌝ }
 {
     let mut table = [[0; Road::PLACES]; Road::PLACES];
     let mut from = source;
     let mut first = 0;
     let mut second = 1;
     for _ in 0..LEGS {
-        let longer = leg(table, first, second, metres(from.rest % longest, twice));
+        let longer = leg(table, first, second, metres(from.rest % bound, twice));
         table = longer;
-        from = behind(from, longest);
+        from = behind(from, bound);
         first = std::num::wrapping_add_usize(first, 1);
         if first == second {
             first = 0;
@@ -96,9 +96,9 @@ pub(crate) fn table(source: Source, longest: u64, twice: bool) -> Table
     table
 }
 
-// A number and one as metres, or twice as many.
+// A number as metres, or twice as many.
 fn metres(number: u64, twice: bool) -> u32 {
-    let once = (number % 1_000_000) as u32 + 1;
+    let once = (number % 1_000_000) as u32;
     if twice { once + once } else { once }
 }
 
@@ -181,11 +181,11 @@ pub(crate) fn day(
     }
 }
 
-// The metric of a random day, from legs of 1 to `longest` metres, or of twice as many.
-pub(crate) fn drawn_table(number: usize, places: usize, longest: u64, twice: bool) -> Table
-    requires { ⌜ (0 < places) × (0 < longest) ⌝ }
+// The shortest ways of a random day, over legs of metres below a bound or of twice as many.
+pub(crate) fn drawn_table(number: usize, places: usize, bound: u64, twice: bool) -> Table
+    requires { ⌜ (0 < places) × (0 < bound) ⌝ }
 {
-    closed(table(drawn(number, 1), longest, twice), places)
+    closed(table(drawn(number, 1), bound, twice), places)
 }
 
 // The starts and calls of a random day.

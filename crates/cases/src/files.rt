@@ -46,7 +46,9 @@ const AMOST: u64 = 0x01_0000_01_000f4240;
 
 const AOVER: u64 = 0x01_0000_01_000f4241;
 
-// The leg (0,2) of 20, 25 and 26 metres, and of the most that a record has room for.
+// The leg (0,2) of 5, 20, 25 and 26 metres, and of the most that a record has room for.
+const B5: u64 = 0x01_0000_02_00000005;
+
 const B20: u64 = 0x01_0000_02_00000014;
 
 const B25: u64 = 0x01_0000_02_00000019;
@@ -55,10 +57,14 @@ const B26: u64 = 0x01_0000_02_0000001a;
 
 const BOVER: u64 = 0x01_0000_02_ffffffff;
 
-// The leg (1,2) of 15 metres and of 0.
+// The leg (1,2) of 5, 6 and 15 metres, and of 1,000,001.
+const C5: u64 = 0x01_0001_02_00000005;
+
+const C6: u64 = 0x01_0001_02_00000006;
+
 const C: u64 = 0x01_0001_02_0000000f;
 
-const C0: u64 = 0x01_0001_02_00000000;
+const COVER: u64 = 0x01_0001_02_000f4241;
 
 // The leg (0,1) the other way, and a leg to a place above 63.
 const BACK: u64 = 0x01_0001_00_0000000a;
@@ -178,7 +184,7 @@ fn long(legs: usize, metres: u8, cranes: usize, calls: usize, last: u64, length:
     }
 }
 
-// Legs 10, 25, 15 and a crane; the triangle rule; a crane alone. Then the metres of a leg.
+// Legs 10, 25, 15 and a crane; the triangle rule; a crane alone. Then the metres of a leg, and the triangle rule over a leg of 0.
 pub(crate) fn metres() {
     line::begin(5);
     short(A, B25, C, K0, 48, 0, 1);
@@ -189,6 +195,8 @@ pub(crate) fn metres() {
     short(AOVER, K1, R0, R1, 48, 0, 1);
     short(A0, K1, R0, R1, 48, 0, 1);
     short(A, BOVER, C, K0, 48, 0, 1);
+    short(A0, B5, C5, K0, 48, 0, 1);
+    short(A0, B5, C6, K0, 48, 0, 1);
     // No record, part of a record, and a record and a byte; 1 before 2.
     line::begin(6);
     short(K0, NONE, NONE, NONE, 0, 0, 2);
@@ -238,10 +246,10 @@ pub(crate) fn order() {
 pub(crate) fn stops() {
     line::begin(10);
     short(C, K0, NONE, NONE, 24, 6, 1);
-    short(C0, K0, NONE, NONE, 24, 0, 1);
+    short(COVER, K0, NONE, NONE, 24, 0, 1);
     short(C, ODD, NONE, NONE, 24, 0, 1);
-    short(A0, A, K0, NONE, 36, 0, 1);
-    short(A0, ODD, NONE, NONE, 24, 0, 1);
+    short(AOVER, A, K0, NONE, 36, 0, 1);
+    short(AOVER, ODD, NONE, NONE, 24, 0, 1);
     // A place not below the number of places; 5 before 6, and before a fault of the next record.
     line::begin(11);
     short(A, K2, R0, R0, 48, 0, 1);

@@ -36,12 +36,12 @@ fn memory() {
 fn legend() {
     line::text(
         b"Tables: the number of the test.
-1 the triangle rule kept and broken
+1 the triangle rule kept and broken, the last two over a leg of 0
 2 1000000, 1000001 and 0 metres; one place; 26 metres past two places
 3 65 and 0 places; 3 before 4; 4 before 8
 4 a self-leg and two directions before 8, and past two places
 Files: the number, the record, and whether the day that was read is written back the same.
-5 triangles and metres
+5 triangles and metres, the last two over a leg of 0
 6 lengths
 7 other kinds and bytes that are not 0
 8 records out of order
@@ -53,7 +53,7 @@ Files: the number, the record, and whether the day that was read is written back
 14 256 calls and 257
 15 the longest and longer
 Days in memory: the numbers of the test, of a fresh book and of the served day; of a write the number, the length and whether the rest is as before.
-16 accepted, and by each number
+16 accepted, and by each number; legs 10, 0, 15
 17 3 before 6 before 7 before 4 before 5 before 8
 18 into 95 bytes, the same by 8, into 96 and 97
 Books: the number of the test; the number of the costs, least and floor; the number of a call, and whether it hands back zeros and the same book.

@@ -38,6 +38,8 @@ pub(crate) fn rules() {
     test(3, 10, 26, 15);
     test(3, 26, 10, 15);
     test(3, 10, 15, 26);
+    test(3, 0, 5, 5);
+    test(3, 0, 5, 6);
     line::begin(2);
     test(2, 1_000_000, 0, 0);
     test(2, 1_000_001, 0, 0);
@@ -56,6 +58,7 @@ pub(crate) fn order() {
     line::begin(4);
     test_with(3, 2, 2, 1, 1);
     test_with(3, 1, 2, 15, 16);
+    test_with(3, 1, 2, 0, 15);
     test_with(2, 2, 2, 1, 1);
     test_with(2, 1, 2, 15, 16);
 }

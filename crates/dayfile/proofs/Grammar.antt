@@ -14,8 +14,8 @@ use native.Mathlib.Nat.{add-zero}
 use native.Mathlib.Omega.{arith}
 use Rattle.base.specs.Tests.{within}
 use Rattle.base.proofs.Numbers.{unless-zero, then-zero}
-use Rattle.base.proofs.Tests.{within-most}
 use Rattle.road.specs.Table.{mostPlaces, mostMetres, metresRule}
+use Rattle.road.proofs.Table.{metres-short}
 use Rattle.dayfile.specs.declared.codec.Record.{Record}
 use Rattle.dayfile.specs.declared.scan.State.{State}
 use Rattle.dayfile.specs.Day.{mostCranes, mostCalls, stop}
@@ -78,7 +78,7 @@ stop-fits kind p h = record { first = omega arith; second = lit< tt; gap = lit< 
 
 fits : (s : State) (r : Record) (i : ℕ) → Accepted s r → Progress s i → Fits r
 fits s r i (a-leg e k n m) h =
-    let most : r .metres ≤ mostMetres = within-most 1 mostMetres (r .metres) (unless-zero (metresRule (r .metres)) 3 m) in
+    let most : r .metres ≤ mostMetres = metres-short (r .metres) (unless-zero (metresRule (r .metres)) 3 m) in
     subst⁻¹ Fits e (record { first = omega arith; second = omega arith; gap = lit< tt; metres = omega arith })
 fits s r i (a-crane e f m p k) h = subst⁻¹ Fits e (stop-fits 2 (r .first) (omega arith))
 fits s r i (a-call e f p k m) h = subst⁻¹ Fits e (stop-fits 3 (r .first) (omega arith))

@@ -16,7 +16,7 @@ use Rattle.dayfile.specs.Day.{mostCranes, mostCalls, stopsRule, dayStarts, dayR
 use Rattle.dayfile.proofs.Ignored.{same-refusal}
 use Rattle.dayfile.proofs.Limits.{Tested, day-tested}
 use Rattle.workfunction.specs.Position.{Position}
-use Rattle.workfunction.proofs.Agreement.{work-same, floor-same, served-same, serve-same}
+use Rattle.workfunction.proofs.Same.{work-same, floor-same, served-same, serve-same}
 use Rattle.book.specs.declared.Book.{Book}
 use Rattle.book.specs.Book.{mostStops, startsOf, standsOf, requestsOf, stopsOf, follower, weight, SameBook, bookRefusal}
 use Rattle.book.proofs.Ignored.{past-counts-ignored}

@@ -1,4 +1,4 @@
--- Document 01's cases marked P, as one table: what is given, and what document 01 says of it.
+-- Document 01's cases marked P and those of the papers, as one table: what is given, and what is said of it.
 use Prim.Native.Nat.{ℕ, _-_}
 use mathlib.Core.Bool.{Bool, true, false, _&&_}
 use mathlib.Core.List.{List, [], _∷_, _++_, map}
@@ -77,24 +77,37 @@ cases =
     served (three 10 20 10) (0 ∷ 2 ∷ []) 1 (20 ∷ 20 ∷ []) 0 10 10 ∷
     -- "two cranes at 0, call at 1 by a leg of 7: crane 0, metres 7"
     served (pair 7) (0 ∷ 0 ∷ []) 1 (14 ∷ 14 ∷ []) 0 7 7 ∷
-    -- "a fresh book: least 0, floor 0": the three above, and case A's
+    -- paper 1: places are told apart by number, so of equal sums and equal drives of 0 the lower crane goes, though the other
+    -- stands at the very place; with crane 0 elsewhere it is crane 1
+    served (three 0 5 5) (1 ∷ 0 ∷ []) 0 (0 ∷ 0 ∷ []) 0 0 0 ∷
+    served (three 0 5 5) (2 ∷ 1 ∷ []) 0 (10 ∷ 0 ∷ []) 1 0 0 ∷
+    -- "a fresh book: least 0, floor 0": those above, and case A's
     fresh one (0 ∷ []) 0 0 ∷
     fresh (three 10 20 10) (0 ∷ 2 ∷ []) 0 0 ∷
     fresh (pair 7) (0 ∷ 0 ∷ []) 0 0 ∷
+    fresh (three 0 5 5) (1 ∷ 0 ∷ []) 0 0 ∷
+    fresh (three 0 5 5) (2 ∷ 1 ∷ []) 0 0 ∷
     fresh (three 10 20 15) (0 ∷ 2 ∷ []) 0 0 ∷
-    -- "legs 10, 25, 15 accepted. P: 10, 26, 15 give 8."
+    -- "legs 10, 25, 15 accepted. P: 10, 26, 15 give 8." The rule holds over a leg of 0 too (paper 1).
     table 3 (three 10 25 15) 0 ∷
     table 3 (three 10 26 15) 8 ∷
-    -- "metres 1,000,000 accepted. P: 1,000,001 give 4. P: 0 give 4."
+    table 3 (three 0 5 5) 0 ∷
+    table 3 (three 0 5 6) 8 ∷
+    -- "metres 1,000,000 accepted. P: 1,000,001 give 4." Paper 1: "The edge case with 0 metres is now accepted."
     table 2 (pair 1000000) 0 ∷
     table 2 (pair 1000001) 4 ∷
-    table 2 (pair 0) 4 ∷
-    -- the same as files: 1,000,000 is 64 + 66 · 256 + 15 · 65,536
+    table 2 (pair 0) 0 ∷
+    -- "in memory also a self-leg not 0 or two directions unequal", beside a leg of 0
+    table 2 ((0 ∷ 0 ∷ []) ∷ (0 ∷ 1 ∷ []) ∷ []) 4 ∷
+    table 2 ((0 ∷ 0 ∷ []) ∷ (1 ∷ 0 ∷ []) ∷ []) 4 ∷
+    -- legs and triangles as files: 1,000,000 is 64 + 66 · 256 + 15 · 65,536
     file (leg 0 1 10 0 0 0 ++ leg 0 2 25 0 0 0 ++ leg 1 2 15 0 0 0 ++ crane 0) 0 0 ∷
     file (leg 0 1 10 0 0 0 ++ leg 0 2 26 0 0 0 ++ leg 1 2 15 0 0 0 ++ crane 0) 8 0 ∷
+    file (leg 0 1 0 0 0 0 ++ leg 0 2 5 0 0 0 ++ leg 1 2 5 0 0 0 ++ crane 0) 0 0 ∷
+    file (leg 0 1 0 0 0 0 ++ leg 0 2 5 0 0 0 ++ leg 1 2 6 0 0 0 ++ crane 0) 8 0 ∷
     file (leg 0 1 64 66 15 0 ++ crane 0) 0 0 ∷
     file (leg 0 1 65 66 15 0 ++ crane 0) 4 0 ∷
-    file (leg 0 1 0 0 0 0 ++ crane 0) 4 0 ∷
+    file (leg 0 1 0 0 0 0 ++ crane 0) 0 0 ∷
     -- "an empty file gives 6, record 0"
     file [] 6 0 ∷
     []

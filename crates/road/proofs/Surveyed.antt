@@ -6,9 +6,9 @@ use mathlib.Core.Path.{_≡_, ap}
 use Rattle.base.specs.Metric.{Metric}
 use Rattle.base.specs.Numbers.{unless, _then_}
 use Rattle.base.proofs.Numbers.{unless-zero, then-zero, first-of}
-use Rattle.base.proofs.Tests.{by-order, within-most}
+use Rattle.base.proofs.Tests.{by-order}
 use Rattle.road.specs.Table.{Table, mostMetres, metresOf, legsRule, triangleRule, placesRefusal, legsRefusal, triangleRefusal, tableRefusal}
-use Rattle.road.proofs.Table.{leg-metres, metric-of, same-leg-rule, same-triangle-rule}
+use Rattle.road.proofs.Table.{metres-short, leg-metres, metric-of, same-leg-rule, same-triangle-rule}
 
 -- what the tests 4 and 8 say, whatever the layer above tests between them
 pub record Surveyed (n : ℕ) (t : Table) : Type 0 where
@@ -29,9 +29,8 @@ module _ {n : ℕ} {t : Table} (s : Surveyed n t) where
   pub surveyed-metric : Metric n (metresOf t)
   surveyed-metric = metric-of n (metresOf t) (s .legs) (s .triangles)
 
-  -- "Between different places it is 1 to 1,000,000"
   leg-short : (u v : ℕ) → u < v → v < n → metresOf t u v ≤ mostMetres
-  leg-short u v l q = within-most 1 mostMetres (metresOf t u v) (leg-metres n (metresOf t) (s .legs) u v l q)
+  leg-short u v l q = metres-short (metresOf t u v) (leg-metres n (metresOf t) (s .legs) u v l q)
 
   pub surveyed-short : (u v : ℕ) → u < n → v < n → metresOf t u v ≤ mostMetres
   surveyed-short u v p q =

@@ -14,7 +14,7 @@ use Rattle.base.specs.Numbers.{numberOf}
 use Rattle.base.specs.Tests.{allBelow}
 use Rattle.base.proofs.Numbers.{holds}
 use Rattle.base.proofs.Tests.{by-order, within-most, below-at, below-all, below-same}
-use Rattle.road.specs.Table.{mostPlaces, entry, placesRule, placesRefusal, metresRule, legRule, legsRule, wayRule, triangleRule}
+use Rattle.road.specs.Table.{mostPlaces, mostMetres, entry, placesRule, placesRefusal, metresRule, legRule, legsRule, wayRule, triangleRule}
 
 module _ (d : ℕ → ℕ → ℕ) (u v : ℕ) where
   pub entry-in : u < mostPlaces → v < mostPlaces → entry d u v ≡ d u v
@@ -59,6 +59,10 @@ module _ (d : ℕ → ℕ → ℕ) (u v : ℕ) where
 -- an accepted number of places
 pub few-places : (v : Verdict) (n : ℕ) → v ≡ Accepted → numberOf v ≡ placesRefusal n → n ≤ mostPlaces
 few-places v n e h = within-most 1 mostPlaces n (holds v (placesRule n) 2 e h)
+
+-- accepted metres
+pub metres-short : (m : ℕ) → metresRule m ≡ true → m ≤ mostMetres
+metres-short m h = leb-true m mostMetres h
 
 module _ (n : ℕ) (d : ℕ → ℕ → ℕ) where
   leg-at : legsRule n d ≡ true → (u v : ℕ) → u < n → v < n → legRule d u v ≡ true

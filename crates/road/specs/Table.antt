@@ -11,7 +11,7 @@ use Rattle.base.specs.Tests.{within, allBelow}
 abbrev pub mostPlaces : ℕ
 mostPlaces = 64
 
--- the most metres of a leg: "Between different places it is 1 to 1,000,000"
+-- the most metres of a leg (paper 1): "its metres give 4 only above 1,000,000"
 abbrev pub mostMetres : ℕ
 mostMetres = 1000000
 
@@ -31,11 +31,12 @@ entry d u w = cond (ltb u mostPlaces && ltb w mostPlaces) (d u w) 0
 abbrev pub placesRule : ℕ → Bool
 placesRule n = within 1 mostPlaces n
 
--- "Between different places it is 1 to 1,000,000"
+-- paper 1: "a leg between different places may be 0, and its metres give 4 only above 1,000,000"
 abbrev pub metresRule : ℕ → Bool
-metresRule m = within 1 mostMetres m
+metresRule m = leb m mostMetres
 
--- "A place to itself is 0. Between different places it is 1 to 1,000,000, the same both ways."
+-- "A place to itself is 0. Between different places it is" at most 1,000,000 (paper 1), "the same both ways." The numbers of
+-- the places tell a self-leg, not its metres.
 unfoldable pub legRule : (ℕ → ℕ → ℕ) → ℕ → ℕ → Bool
 legRule d u v = cond (eqb u v) (eqb (d u v) 0) (eqb (d u v) (d v u) && metresRule (d u v))
 

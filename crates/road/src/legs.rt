@@ -1,4 +1,4 @@
-// The legs of a lent table: 0 from a place to itself, else within the limits of a leg and the same both ways.
+// The legs of a lent table: 0 from a place to itself, else at most the limit of a leg and the same both ways.
 use crate::Road;
 use crate::Table;
 use base::Refusal;

@@ -49,13 +49,10 @@ impl Road {
         Verdict::Accepted
     }
 
-    // 4 unless the metres of a leg between different places are within their limits.
+    // 4 if the metres of a leg between different places are above the limit.
     pub fn test_metres(metres: u32) -> Verdict
         ensures { λ r. ⌜ numberOf r ≡ metresRefusal metres ⌝ }
     {
-        if metres < 1 {
-            return Verdict::Refused(Refusal::Metres);
-        }
         if Road::METRES < metres {
             return Verdict::Refused(Refusal::Metres);
         }

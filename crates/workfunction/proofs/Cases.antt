@@ -20,6 +20,10 @@ use Rattle.workfunction.specs.Plan.{mayFollow, follows, followersRule, o
 abbrev three : ℕ → ℕ → ℕ → List (List ℕ)
 three a b c = (0 ∷ a ∷ b ∷ []) ∷ (a ∷ 0 ∷ c ∷ []) ∷ (b ∷ c ∷ 0 ∷ []) ∷ []
 
+-- place 3 is another gate of place 1: 0 metres from it, and as far as it from the others
+abbrev gates : List (List ℕ)
+gates = (0 ∷ 1 ∷ 2 ∷ 1 ∷ []) ∷ (1 ∷ 0 ∷ 2 ∷ 0 ∷ []) ∷ (2 ∷ 2 ∷ 0 ∷ 2 ∷ []) ∷ (1 ∷ 0 ∷ 2 ∷ 0 ∷ []) ∷ []
+
 abbrev metres : List (List ℕ) → ℕ → ℕ → ℕ
 metres rows u v = getD (getD rows u []) v 0
 
@@ -40,6 +44,10 @@ days =
     day (three 10 20 15) (0 ∷ 2 ∷ []) [] [] 0 ∷
     -- at the last call both cranes give 4, and crane 1 drives less
     day (three 1 2 2) (2 ∷ 0 ∷ []) (1 ∷ 0 ∷ 1 ∷ []) (served 1 1 1 ∷ served 1 1 2 ∷ served 1 1 3 ∷ []) 2 ∷
+    -- the same with the last call at the other gate
+    day gates (2 ∷ 0 ∷ []) (1 ∷ 0 ∷ 3 ∷ []) (served 1 1 1 ∷ served 1 1 2 ∷ served 1 1 3 ∷ []) 2 ∷
+    -- a call at a gate: crane 0 stands at the other gate, and crane 1 at the very place; both give 0 and drive 0
+    day (three 0 5 5) (1 ∷ 0 ∷ []) (0 ∷ []) (served 0 0 0 ∷ []) 0 ∷
     []
 
 unfoldable pub found : Day → List Served × ℕ

@@ -13,4 +13,4 @@ pub mod Upper
 pub mod Witness
 pub mod NetCost
 pub mod Serving
-pub mod Agreement
+pub mod Same

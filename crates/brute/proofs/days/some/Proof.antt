@@ -6,10 +6,10 @@ use Rattle.brute.proofs.days.some.Statement.{statement}
 use Rattle.brute.proofs.days.some.Tie as tie
 
 abbrev Inv-loop : tie.InvT-loop
-Inv-loop places cranes longest days all₀ i₀ all i = i ≤ days
+Inv-loop places cranes bound days all₀ i₀ all i = i ≤ days
 
 abbrev μ-loop : tie.MeasureT-loop
-μ-loop places cranes longest days all₀ i₀ all i = days - i
+μ-loop places cranes bound days all₀ i₀ all i = days - i
 
 loop-holds : tie.Need-loop-holds Inv-loop μ-loop
 loop-holds c = search needs

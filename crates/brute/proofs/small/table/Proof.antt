@@ -6,10 +6,10 @@ use Rattle.brute.proofs.small.table.Statement.{statement}
 use Rattle.brute.proofs.small.table.Tie as tie
 
 abbrev Inv-loop : tie.InvT-loop
-Inv-loop longest twice table₀ from₀ first₀ second₀ counter₀ table from first second counter = counter ≤ 10
+Inv-loop bound twice table₀ from₀ first₀ second₀ counter₀ table from first second counter = counter ≤ 10
 
 abbrev μ-loop : tie.MeasureT-loop
-μ-loop longest twice table₀ from₀ first₀ second₀ counter₀ table from first second counter = 10 - counter
+μ-loop bound twice table₀ from₀ first₀ second₀ counter₀ table from first second counter = 10 - counter
 
 loop-holds : tie.Need-loop-holds Inv-loop μ-loop
 loop-holds c = search needs
