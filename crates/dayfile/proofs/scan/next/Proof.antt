@@ -14,7 +14,7 @@ add-t10 c = search needs
 
 returns : tie.Need-returns
 unfolding after afterLeg
-returns c = rw (eq-eqb _ 1 (c .before .if1 .taken), eq-eqb _ _ (c .if2 .taken))
+returns c = rw (eq-eqb _ 1 (c .before .if1 .taken), eq-eqb _ (c .before .before .before .args .s .second) (c .if2 .taken))
 
 add-t8 : tie.Need-add-t8
 add-t8 c = search needs

@@ -6,7 +6,7 @@ use Rattle.dispatch.proofs.call.test.Statement.{statement}
 use Rattle.dispatch.proofs.call.test.Tie as tie
 
 returns : tie.Need-returns
-returns c = rw (le-ltb _ _ (c .if1 .taken))
+returns c = rw (le-ltb (c .before .args .place) (c .before .args .places) (c .if1 .taken))
 
 returns-2 : tie.Need-returns-2
 returns-2 c = rw (lt-ltb _ _ (c .before .if1 .left), le-ltb _ mostCalls (c .if2 .taken))
