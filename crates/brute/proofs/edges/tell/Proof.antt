@@ -5,7 +5,6 @@ use lib.ListN.{length}
 use lib.Seq.{length-take-le}
 use mathlib.Core.Path.{_≡_, sym}
 use native.Mathlib.Omega.{arith}
-use borrow.Author.Needs.{needs}
 use Rattle.brute.proofs.edges.tell.Statement.{statement}
 use Rattle.brute.proofs.edges.tell.Tie as tie
 

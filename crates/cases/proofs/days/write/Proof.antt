@@ -1,11 +1,8 @@
 -- `cases::days::write` is safe: the part of the buffer is within it.
 -- Assumes nothing.
 use borrow.Author.Needs.{needs}
-use lib.ListN.{length}
 use lib.Seq.{length-take-le}
-use mathlib.Core.Path.{_≡_, sym}
-use native.Mathlib.Omega.{arith}
-use borrow.Author.Needs.{needs}
+use mathlib.Core.Path.{sym}
 use Rattle.cases.proofs.days.write.Statement.{statement}
 use Rattle.cases.proofs.days.write.Tie as tie
 

@@ -1,11 +1,8 @@
 -- `cases::files::long` is safe: no more is read than the file has.
 -- Assumes nothing.
 use borrow.Author.Needs.{needs}
-use lib.ListN.{length}
 use lib.Seq.{length-take-le}
-use mathlib.Core.Path.{_≡_, sym}
-use native.Mathlib.Omega.{arith}
-use borrow.Author.Needs.{needs}
+use mathlib.Core.Path.{sym}
 use Rattle.cases.proofs.files.long.Statement.{statement}
 use Rattle.cases.proofs.files.long.Tie as tie
 
