@@ -88,11 +88,11 @@ module _ {n : ℕ} {d read : ℕ → ℕ → ℕ} (roads : Roads n d read) where
             few = few;
             weighed = omega arith;
             certified = record {
-              planned = kept .planned;
-              ranged = kept .ranged;
+              planned = kept .certified .planned;
+              ranged = kept .certified .ranged;
               vouched =
-                  vouch-over-legs (length starts) (stops starts calls) plan weights (legAt longer) (legCost d starts calls stands) (kept .planned)
-                  leg-early ∙ kept .vouched;
+                  vouch-over-legs (length starts) (stops starts calls) plan weights (legAt longer) (legCost d starts calls stands)
+                  (kept .certified .planned) leg-early ∙ kept .certified .vouched;
             };
             short = longer-short;
           }
@@ -101,7 +101,7 @@ module _ {n : ℕ} {d read : ℕ → ℕ → ℕ} (roads : Roads n d read) where
       kept-self = let few = kept-few kept room in let long = kept .planLong in taken-self (stops starts calls) plan (omega arith)
 
       kept-plan : Plan (length starts) (stops starts calls) (follower (set plan (stops starts calls) (stops starts calls)))
-      kept-plan = taken-plan (length starts) (stops starts calls) plan (kept .planned)
+      kept-plan = taken-plan (length starts) (stops starts calls) plan (kept .certified .planned)
 
       module _ {s : ℕ} {g : ℕ → ℕ} {old y : ℕ → ℤ}
           (taken : Inserted (length starts) (stops starts calls) (follower (set plan (stops starts calls) (stops starts calls))) (legAt longer) s g old y) where
@@ -167,9 +167,7 @@ module _ {n : ℕ} {d read : ℕ → ℕ → ℕ} (roads : Roads n d read) where
               record {
                 asked = record { day = instance-then (kept .asked .day) asked; cranes = kept .asked .cranes; few = omega arith };
                 standing = position-set stands s r asked (kept .standing);
-                planned = rw one at (served-plan taken);
-                ranged = rw one at served-range;
-                vouched = rw one at served-vouched;
+                certified = record { planned = rw one at (served-plan taken); ranged = rw one at served-range; vouched = rw one at served-vouched };
                 table = record { leg = λ p b h l. leg-left p b (rw one h) (rw one l) };
                 planLong = planLong;
                 weightsLong = rw length-set weightsLong;
@@ -185,7 +183,7 @@ module _ {n : ℕ} {d read : ℕ → ℕ → ℕ} (roads : Roads n d read) where
               sum-same (stops starts calls + 1) _ _ (λ p h. leg-left p (follower plan' p) h (served-below taken p h))
               ∙ rw (stops-more starts calls r)
               (witness-work (roads .laws) (k .asked .day) (follower plan') (weight (set weights' s (pos 0)))
-              (k .planned) (k .standing) (k .vouched))
+              (k .certified .planned) (k .standing) (k .certified .vouched))
 
           pub call-answered : {pick : Pick} → s ≡ picked pick (leastEnd (length starts) (stops starts calls) (taken .netEnd) (legAt longer))
               → {metres least : ℕ} → metres ≡ read (getD stands s 0) r

@@ -37,9 +37,8 @@ module _ {book : Book} {n : ℕ} {t : Table} (arrays : BookArrays book) (s : Sou
   sound-kept plan weights costs table = record {
     asked = sound-asked arrays s;
     standing = sound-standing arrays s;
-    planned = rw (starts-long (sound-fits arrays s), requests-long (sound-fits arrays s)) (s .plan);
-    ranged = rw (starts-long (sound-fits arrays s), requests-long (sound-fits arrays s)) (s .range);
-    vouched = rw (starts-long (sound-fits arrays s), requests-long (sound-fits arrays s)) (s .vouched);
+    certified =
+        rw (starts-long (sound-fits arrays s), requests-long (sound-fits arrays s)) (record { planned = s .plan; ranged = s .range; vouched = s .vouched });
     table = record {
       leg = λ p b h l. table .leg p b h l
           ∙ same-costs (s .counts .place) _ _ _ (s .starts) (s .requests) (s .stands) (entry (metresOf t)) (metresOf t)
@@ -57,15 +56,15 @@ rule-of n l placed = below-all _ (length l) (λ i h. lt-ltb (getD l i 0) n (plac
 -- a day under way is that of a sound book
 kept-sound : {book : Book} {n : ℕ} {t : Table} {costs : List ℕ} → Fits book → CountsTested n (book .cranes) (book .calls) → Surveyed n t
     → Kept n (metresOf t) (startsOf book) (requestsOf book) (standsOf book) (book .plan) (book .weights) costs → Sound book n t
-kept-sound {n = n} fits counts surveyed k = record {
+kept-sound {n = n} fits counts surveyed k = let c = rw (starts-long fits, requests-long fits) at (k .certified) in record {
   counts = counts;
   surveyed = surveyed;
   starts = rule-of n _ (λ r m. k .asked .day .started .placed m);
   requests = rule-of n _ (λ r m. k .asked .day .called m);
   stands = rule-of n _ (λ r m. k .standing .placed m);
-  plan = rw (starts-long fits, requests-long fits) at (k .planned);
-  range = rw (starts-long fits, requests-long fits) at (k .ranged);
-  vouched = rw (starts-long fits, requests-long fits) at (k .vouched);
+  plan = c .planned;
+  range = c .ranged;
+  vouched = c .vouched;
 }
 
 -- the book after a call at r: its cranes' stands, its plan and its weights are new

@@ -48,7 +48,7 @@ module _ {n : ℕ} {d read : ℕ → ℕ → ℕ} (roads : Roads n d read) {star
   free-end p h = let l : p < stops starts calls = omega arith in free-leg p p l l ∙ rw (lt-ltb p (length starts) h)
 
   -- without a call
-  pub free-begun : Certified (length starts) (length starts) (padded mostStops (length starts) (λ j. j) 0) (replicate mostStops (pos 0)) costs
+  pub free-begun : Certified (length starts) (length starts) (padded mostStops (length starts) (λ j. j) 0) (replicate mostStops (pos 0)) (legAt costs)
   free-begun =
       let most : length starts ≤ mostStops = omega (arith, asked .cranes) in
       record {
@@ -58,7 +58,7 @@ module _ {n : ℕ} {d read : ℕ → ℕ → ℕ} (roads : Roads n d read) {star
       }
 
   -- with all calls
-  pub free-floor : (plan : List ℕ) (weights : List ℤ) → Certified (length starts) (stops starts calls) plan weights costs
+  pub free-floor : (plan : List ℕ) (weights : List ℤ) → Certified (length starts) (stops starts calls) plan weights (legAt costs)
       → planCost (stops starts calls) (legAt costs) (follower plan) ≡ floor d n starts calls
   free-floor plan weights done =
       let N = stops starts calls in

@@ -14,10 +14,10 @@ use Rattle.workfunction.specs.Choice.{preferred, moved, choice}
 use Rattle.workfunction.specs.Lists.{sumBelow}
 use Rattle.workfunction.specs.Movement.{Instance}
 use Rattle.workfunction.specs.NetCost.{Flipped}
-use Rattle.workfunction.specs.Plan.{planRule, vouchRule, stops, legCost}
+use Rattle.workfunction.specs.Plan.{planRule, stops, legCost}
 use Rattle.workfunction.specs.Position.{Position}
 use Rattle.workfunction.specs.Serving.{Served, servedBy}
-use Rattle.book.specs.Book.{mostStops, follower, weight, rangeRule}
+use Rattle.book.specs.Book.{mostStops, follower, weight}
 use Rattle.dispatch.specs.declared.insert.Pick.{Pick}
 use Rattle.dispatch.specs.declared.insert.Pick.the-variants.{Least, End}
 use Rattle.dispatch.specs.Legs.{legAt, LegTable}
@@ -118,7 +118,7 @@ pub record AllGiven (k n : ℕ) (plan : List ℕ) (weights : List ℤ) (costs : 
   pub weightsLong : mostStops ≤ length weights
   pub costsLong : mostStops * mostStops ≤ length costs
   pub short : (p b : ℕ) → p < n → b < n → legAt costs p b ≤ mostMetres
-  pub certified : Certified k k plan weights costs
+  pub certified : Certified k k plan weights (legAt costs)
 
 -- metres d between n places, and what is read off their table
 pub record Roads (n : ℕ) (d read : ℕ → ℕ → ℕ) : Type 0 where
@@ -143,9 +143,7 @@ pub record FloorGiven (read : ℕ → ℕ → ℕ) (starts calls : List ℕ) : T
 pub record Kept (n : ℕ) (d : ℕ → ℕ → ℕ) (starts calls stands plan : List ℕ) (weights : List ℤ) (costs : List ℕ) : Type 0 where
   pub asked : Asked n starts calls
   pub standing : Position n (length starts) stands
-  pub planned : planRule (length starts) (stops starts calls) (follower plan) ≡ true
-  pub ranged : rangeRule (stops starts calls) (weight weights) ≡ true
-  pub vouched : vouchRule (length starts) (stops starts calls) (follower plan) (legCost d starts calls stands) (weight weights) ≡ true
+  pub certified : Certified (length starts) (stops starts calls) plan weights (legCost d starts calls stands)
   pub table : LegTable d starts calls stands costs
   pub planLong : mostStops ≤ length plan
   pub weightsLong : mostStops ≤ length weights

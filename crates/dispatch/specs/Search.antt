@@ -124,17 +124,17 @@ pub record RoundsGiven (k N : ℕ) (plan heads costs stops totals parents ranks 
   pub ready : Ready k N (follower plan) (legAt costs) (at heads)
   pub begun : Begun N (λ p. legAt costs p N) (at totals) (at parents) (at ranks)
 
--- a plan of N stops with weights that vouch for it over the table's legs
-pub record Certified (k N : ℕ) (plan : List ℕ) (weights : List ℤ) (costs : List ℕ) : Type 0 where
+-- a plan of N stops with weights that vouch for it, c p b being the cost of the leg from p to b
+pub record Certified (k N : ℕ) (plan : List ℕ) (weights : List ℤ) (c : ℕ → ℕ → ℕ) : Type 0 where
   pub planned : planRule k N (follower plan) ≡ true
   pub ranged : rangeRule N (weight weights) ≡ true
-  pub vouched : vouchRule k N (follower plan) (legAt costs) (weight weights) ≡ true
+  pub vouched : vouchRule k N (follower plan) c (weight weights) ≡ true
 
 -- what the search begins from: such a plan, with room for one more call, the legs of which are within the limit too
 pub record Witnessed (k N : ℕ) (plan : List ℕ) (weights : List ℤ) (costs : List ℕ) : Type 0 where
   pub few : N < mostStops
   pub weighed : N ≤ length weights
-  pub certified : Certified k N plan weights costs
+  pub certified : Certified k N plan weights (legAt costs)
   pub short : (p b : ℕ) → p ≤ N → b ≤ N → legAt costs p b ≤ mostMetres
 
 -- what the search is given: the new call is followed by itself for the moment

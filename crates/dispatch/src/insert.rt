@@ -94,7 +94,7 @@ pub(crate) fn insert_all(
     weights: &mut [i64],
 )
     requires { ⌜ AllGiven cranes stops (now plan) (now weights) (now costs) ⌝ }
-    ensures { λ _. ⌜ Certified cranes stops (now (plan .exit)) (now (weights .exit)) (now (costs .entry)) ⌝ }
+    ensures { λ _. ⌜ Certified cranes stops (now (plan .exit)) (now (weights .exit)) (legAt (now (costs .entry))) ⌝ }
 {
     let mut new = cranes;
     while new < stops {

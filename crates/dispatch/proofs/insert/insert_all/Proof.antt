@@ -25,9 +25,9 @@ module _ (k stops : ℕ) (costs plan₀ : List ℕ) (weights₀ : List ℤ) wher
     most : N ≤ stops
     planned : length plan ≡ length plan₀
     weighed : length weights ≡ length weights₀
-    taken : Certified k N plan weights costs
+    taken : Certified k N plan weights (legAt costs)
 
-  taking-begun : k ≤ stops → Certified k k plan₀ weights₀ costs → Taking plan₀ weights₀ k
+  taking-begun : k ≤ stops → Certified k k plan₀ weights₀ (legAt costs) → Taking plan₀ weights₀ k
   taking-begun le i = record { least = omega arith; most = le; planned = refl; weighed = refl; taken = i }
 
   module _ (short : (p b : ℕ) → p < stops → b < stops → legAt costs p b ≤ mostMetres) (few : stops ≤ mostStops)
@@ -63,7 +63,7 @@ module _ (k stops : ℕ) (costs plan₀ : List ℕ) (weights₀ : List ℤ) wher
           };
         }
 
-  taking-ended : {plan : List ℕ} {weights : List ℤ} {N : ℕ} → Taking plan weights N → stops ≤ N → Certified k stops plan weights costs
+  taking-ended : {plan : List ℕ} {weights : List ℤ} {N : ℕ} → Taking plan weights N → stops ≤ N → Certified k stops plan weights (legAt costs)
   taking-ended {N = N} t le = let e : stops ≡ N = omega (arith, t .most) in rw e (t .taken)
 
 abbrev Inv-loop : tie.InvT-loop
