@@ -171,3 +171,24 @@ splice-on at a b old h =
     in
     rw (← append-assoc (take at old) a rest, take-at front rest (at + length a) e, far, length-append a b, ← add-assoc at (length a) (length b))
     (append-assoc (take at old) a _ ∙ ap (λ (l : List ℕ). take at old ++ l) (sym (append-assoc a b _)))
+
+-- the invariant of a loop that writes bytes one behind another from index at: after i turns of n those of text i
+pub record Spliced (text : ℕ → List ℕ) (at : ℕ) (old : List ℕ) (n : ℕ) (now : List ℕ) (i : ℕ) : Type 0 where
+  pub most : i ≤ n
+  pub long : length now ≡ length old
+  pub same : now ≡ splice at (text i) old
+
+module _ (text : ℕ → List ℕ) (at : ℕ) (old : List ℕ) (n : ℕ) where
+  pub splice-begun : text 0 ≡ [] → at ≤ length old → Spliced text at old n old 0
+  splice-begun e h = record { most = zero-le; long = refl; same = rw e (splice-none at old h) }
+
+  -- a turn writes more
+  pub splice-turned : (now new more : List ℕ) (i : ℕ) → text (i + 1) ≡ text i ++ more → at + length (text (i + 1)) ≤ length old
+      → Spliced text at old n now i → i < n → new ≡ splice (at + length (text i)) more now → Spliced text at old n new (i + 1)
+  splice-turned now new more i on fits p lt e =
+      let room : at + (length (text i) + length more) ≤ length old = rw (on, length-append) at fits in
+      let q : new ≡ splice at (text (i + 1)) old = e ∙ rw (p .same, on) (splice-on at (text i) more old room) in
+      record { most = omega arith; long = ap length q ∙ length-splice at (text (i + 1)) old fits; same = q }
+
+  pub splice-ended : (now : List ℕ) (i : ℕ) → Spliced text at old n now i → n ≤ i → now ≡ splice at (text n) old
+  splice-ended now i p le = subst (λ (k : ℕ). now ≡ splice at (text k) old) (le-antisymm (p .most) le) (p .same)

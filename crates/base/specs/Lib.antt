@@ -2,3 +2,4 @@ pub mod Numbers
 pub mod Tests
 pub mod Metric
 pub mod Lists
+pub mod Decimal

@@ -1,5 +1,5 @@
--- Lists by their indices, and a list written into another.
-use Prim.Native.Nat.{ℕ, zero, suc, _+_, _-_}
+-- Lists by their indices, a list written into another, and items of one width one behind another.
+use Prim.Native.Nat.{ℕ, zero, suc, _+_, _-_, _*_, _/_}
 use mathlib.Core.List.{List, [], _∷_, _++_}
 use lib.ListN.{length, take, drop, replicate}
 
@@ -15,3 +15,7 @@ padded m n f z = upTo n f ++ replicate (m - n) z
 -- old with new written into it from index at
 unfoldable pub splice : ℕ → List ℕ → List ℕ → List ℕ
 splice at new old = take at old ++ (new ++ drop (at + length new) old)
+
+-- the items of w bytes each that stand one behind another, each read from its first byte on by f
+abbrev pub blocks : {A : Type 0} → ℕ → (List ℕ → A) → List ℕ → List A
+blocks w f bs = upTo (length bs / w) (λ i. f (drop (w * i) bs))

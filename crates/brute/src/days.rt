@@ -1,12 +1,14 @@
 // Every small day up to a size, and days drawn at random, each served by the library and by the brute search.
 use crate::search;
+use crate::sheets;
 use crate::small;
 use crate::tally::Tally;
 use dayfile::Day;
 use road::Table;
 ghost use Prim.Native.Nat.{_<_};
 
-// Whether every figure of a small day agrees. Its table need not keep the triangle rule: then the day must be refused by 8.
+// Whether every figure of a small day and its sheet agree. Its table need not keep the triangle rule: then the day must be refused by 8,
+// served and as a sheet.
 fn agrees(day: Day, table: &Table) -> bool {
     if small::metric(table, day.places) {
         let sides = search::day(day, table);
@@ -14,7 +16,7 @@ fn agrees(day: Day, table: &Table) -> bool {
     }
     let served = search::served(day, table);
     let verdict = served.verdict;
-    base::number(verdict) == 8
+    (base::number(verdict) == 8) & sheets::refused(sheets::write(day, table), 8)
 }
 
 // All days of a size, which are so many: with legs of metres below a bound, and with so many tables and lists of starts.

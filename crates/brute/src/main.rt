@@ -1,12 +1,13 @@
 // Serves small days by the compiled library and by a brute search over positions. Prints what the program tells of document 01's days, and
-// for each group how many days were tried and of how many every figure agrees. Stands on all the libraries here, and on the toolchain's
-// `io` for writing.
+// for each group how many days were tried and of how many every figure and the sheet agree. Stands on all the libraries here, and on the
+// toolchain's `io` for writing.
 mod days;
 mod edges;
 mod past;
 mod positions;
 mod restored;
 mod search;
+mod sheets;
 mod small;
 mod tally;
 

@@ -148,8 +148,8 @@ fn written_alike(a: Day, b: Day, first: Table, second: Table) -> bool {
     (told.length == again.length) & check::same(&one, &other)
 }
 
-// A random day of so many calls and one more: every figure is the search's, the last call is served from a book with such entries, and
-// the book after it and the file are those of the day without them.
+// A random day of so many calls and one more: every figure and the sheet are the search's, the last call is served from a book with such
+// entries, and the book after it and the file are those of the day without them.
 fn agrees(size: positions::Size, day: Day, table: Table, place: u16) -> bool {
     let wild = spoiled_table(table, size.places);
     let plain = search::call(&table, size, search::day(day, &table), place);

@@ -4,6 +4,8 @@ use crate::positions::Position;
 use crate::positions::Reached;
 use crate::positions::Sent;
 use crate::positions::Size;
+use crate::sheets;
+use crate::sheets::Posted;
 use book::Book;
 use dayfile::Day;
 use dispatch::Dispatch;
@@ -150,14 +152,23 @@ fn line(served: ServedDay, i: usize, sent: Sent) -> bool
     (i < served.calls) & alike(sent, crane, served.metres[i], served.leasts[i])
 }
 
-// Every call of a small day.
-fn calls(day: Day, table: &Table, size: Size, first: Sides, served: ServedDay) -> Sides {
+// Every call of a small day, beside the served day and the sheet.
+fn calls(
+    day: Day,
+    table: &Table,
+    size: Size,
+    first: Sides,
+    served: ServedDay,
+    posted: Posted,
+) -> Sides {
     let requests = day.requests;
     let mut sides = first;
     for i in 0..CALLS {
         if i < day.calls {
-            sides = call(table, size, sides, requests[i]);
-            sides.agree = sides.agree & line(served, i, sides.sent);
+            let place = requests[i];
+            sides = call(table, size, sides, place);
+            let row = sheets::row(posted, i, place, sides.sent);
+            sides.agree = sides.agree & line(served, i, sides.sent) & row;
         }
     }
     sides
@@ -168,13 +179,15 @@ pub(crate) fn served(day: Day, table: &Table) -> ServedDay {
     Dispatch::serve_day(day, *table)
 }
 
-// A small day from its fresh book: every call, every pair of costs and the served day.
+// A small day from its fresh book: every call, every pair of costs, the served day and the sheet.
 pub(crate) fn day(day: Day, table: &Table) -> Sides {
     let size = positions::size_of(day.places, day.cranes);
     let opening = Book::fresh(day, *table);
     let told = served(day, table);
-    let mut sides = calls(day, table, size, begin(table, size, opening.book), told);
+    let posted = sheets::write(day, table);
+    let first = begin(table, size, opening.book);
+    let mut sides = calls(day, table, size, first, told, posted);
     let sums = (told.driven == sides.desk.driven) & (told.floor == sides.desk.floor);
-    sides.agree = sides.agree & sums;
+    sides.agree = sides.agree & sums & sheets::ends(posted, day.calls);
     sides
 }

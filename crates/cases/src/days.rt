@@ -55,17 +55,20 @@ fn write(day: Day, table: Table, room: usize) {
     }
 }
 
-// The numbers that the test of a day gives, the opening of its book, serving it, and writing it into no room.
+// The numbers that the test of a day gives, the opening of its book, serving it, its sheet into no room, and writing it into no room.
 fn take(places: usize, cranes: usize, calls: usize, start: u16, call: u16, second: u32) {
     let day = day(places, cranes, calls, start, call);
     let table = tables::three(10, second, 15);
     let opening = Book::fresh(day, table);
     let served = Dispatch::serve_day(day, table);
+    let posted = sheet::write(day, table, &mut []);
     line::verdict(day.test(table));
     let opened = opening.verdict;
     line::verdict(opened);
     let told = served.verdict;
     line::verdict(told);
+    let shown = posted.verdict;
+    line::verdict(shown);
     write(day, table, 0);
 }
 

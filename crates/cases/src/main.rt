@@ -5,6 +5,7 @@ mod days;
 mod files;
 mod line;
 mod prints;
+mod sheets;
 mod tables;
 
 // Road tables and day files.
@@ -19,7 +20,7 @@ fn read() {
     files::calls();
 }
 
-// Days and books in memory, and prints.
+// Days and books in memory, prints and sheets.
 fn memory() {
     days::each();
     days::order();
@@ -30,6 +31,9 @@ fn memory() {
     books::fresh();
     prints::days();
     prints::refusals();
+    sheets::buffers();
+    sheets::past();
+    sheets::widths();
 }
 
 // What the numbered lines are.
@@ -52,7 +56,7 @@ Files: the number, the record, and whether the day that was read is written back
 13 sixteen cranes and seventeen
 14 256 calls and 257
 15 the longest and longer
-Days in memory: the numbers of the test, of a fresh book and of the served day; of a write the number, the length and whether the rest is as before.
+Days in memory: the numbers of the test, of a fresh book, of the served day and of a sheet into no room; of a write the number, the length and whether the rest is as before.
 16 accepted, and by each number; legs 10, 0, 15
 17 3 before 6 before 7 before 4 before 5 before 8
 18 into 95 bytes, the same by 8, into 96 and 97
@@ -65,9 +69,14 @@ Books: the number of the test; the number of the costs, least and floor; the num
 24 3 before 6 before 7 before 4 before 5 before 8 before 9 before 10, then 5 and 7
 25 a fresh one, and that of a refused day
 26 a book filled, calls accepted, and one more
-Prints: the text, and whether all bytes past it are 0.
+Prints: the text of the print, then of the sheet, and whether all bytes past each are 0.
 27 case A; one place and one crane; the same and a call
-28 an empty file; 13 bytes; legs missing; legs 10, 26, 15",
+28 an empty file; 13 bytes; legs missing; legs 10, 26, 15
+Sheets: the rows, the number, the length and whether the rest is as before.
+29 case A into 83, 84 and 85 bytes; legs 10, 26, 15 into 83 and 84
+30 no calls into no bytes and into 85
+31 case A, with numbers past the counts that break every rule
+32 the last row of 256 calls; place 63 and crane 15",
     );
 }
 

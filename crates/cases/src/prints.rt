@@ -1,18 +1,26 @@
-// The program's print, byte for byte: case A, other days, and refusals.
+// What the programs print, byte for byte: case A, other days, and refusals.
 use crate::days;
 use crate::line;
 
-// Prints the print of a file, and whether every byte past its text is 0, 1 or 0.
-fn print(file: &[u8]) {
+// A text on lines of its own, and whether every byte past it is 0, 1 or 0.
+fn show(text: &[u8], zeros: bool) {
     line::text(b"\n");
+    line::text(text);
+    line::number(zeros as u64);
+}
+
+// The print of a file, and its sheet.
+fn print(file: &[u8]) {
     let printed = report::print(file);
-    let length = printed.length;
-    let text = printed.text;
-    if report::TEXT < length {
-        return;
-    }
-    line::text(&text[..length]);
-    line::number(days::rest_is(0, &text[..], length) as u64);
+    let lines = printed.text;
+    let end = printed.length;
+    let zeros = days::rest_is(0, &lines[..], end);
+    show(&lines[..end], zeros);
+    let posted = report::print_sheet(file);
+    let rows = posted.text;
+    let length = posted.length;
+    let none = days::rest_is(0, &rows[..], length);
+    show(&rows[..length], none);
 }
 
 // Case A. Then one place and one crane: no calls, and one call.

@@ -1,33 +1,29 @@
 -- The bytes of records: what is written is read back, and bytes that are read are written back.
 -- Assumes nothing.
 use Prim.Native.Nat.{ℕ, zero, suc, _+_, _*_, _/_, _%_, _^_, _<_, _≤_}
-use mathlib.Core.List.{List, [], _∷_, _++_}
+use mathlib.Core.List.{List, [], _∷_, _++_, flatMap}
 use mathlib.Core.Path.{_≡_, refl, sym, ap, _∙_}
 use lib.Arith.{lt-one, digits-div, digits-mod}
 use lib.ListN.{length, getD, take, drop, length-drop, take-append-drop}
-use lib.Seq.{drop-drop, getD-drop}
-use native.Mathlib.Nat.{add-comm, mul-comm, mul-suc, pow-suc, mod-add-div, div-lt-iff-lt-mul, add-div-left, zero-lt-suc}
-use native.Mathlib.Numerals.{add-one}
+use lib.Seq.{getD-drop}
+use native.Mathlib.Nat.{add-comm, mul-comm, pow-suc, mod-add-div, div-lt-iff-lt-mul, zero-lt-suc}
 use native.Mathlib.Omega.{arith}
 use Rattle.base.specs.Lists.{upTo}
-use Rattle.base.proofs.Lists.{upTo-same, take-upTo}
+use Rattle.base.proofs.Blocks.{Each, each-same, blocks-more, blocks-back}
+use Rattle.base.proofs.Lists.{take-upTo}
 use Rattle.dayfile.specs.declared.codec.Record.{Record}
 use Rattle.dayfile.specs.Codec.{little, bytesOf, two, four, decode, encode, records, encodeAll}
 
--- a list of bytes, and one that is written out
+-- a list of bytes
 abbrev pub Bytes : List ℕ → Type 0
 Bytes bs = (i : ℕ) → getD bs i 0 < 256
-
-abbrev Each : List ℕ → Type 0
-Each [] = Unit {0}
-Each (b ∷ bs) = (b < 256) × Each bs
 
 digits-back : (n x : ℕ) → x < 256 ^ n → little (bytesOf n x) ≡ x
 digits-back zero x h = sym (lt-one h)
 digits-back (suc n) x h =
     rw (digits-back n (x / 256) (div-lt-iff-lt-mul (zero-lt-suc 255) .1 (rw pow-suc at h))) (mod-add-div x 256)
 
-number-back : (bs : List ℕ) → Each bs → bytesOf (length bs) (little bs) ≡ bs
+number-back : (bs : List ℕ) → Each (λ b. b < 256) bs → bytesOf (length bs) (little bs) ≡ bs
 number-back [] h = refl
 number-back (b ∷ bs) h =
     rw (add-comm b (256 * little bs), mul-comm 256 (little bs), digits-mod (little bs) (h .0), digits-div (little bs) (h .0))
@@ -66,36 +62,22 @@ module _ (bs : List ℕ) (bytes : Bytes bs) where
   encode-decode h =
       (λ i. getD bs 0 0 ∷ getD bs 1 0 ∷ (two-back 2 i ++ (two-back 4 i ++ (two-back 6 i ++ four-back 8 i)))) ∙ sym (take-upTo 12 bs 0 h)
 
--- the first record of some bytes, and the rest
-records-more : (bs : List ℕ) → 12 ≤ length bs → records bs ≡ decode bs ∷ records (drop 12 bs)
-unfolding records upTo
-records-more bs h =
-    let n : ℕ = length (drop 12 bs) / 12 in
-    let whole : length bs ≡ 12 + length (drop 12 bs) = rw length-drop (omega arith) in
-    let e : length bs / 12 ≡ suc n = ap (λ (k : ℕ). k / 12) whole ∙ add-div-left (length (drop 12 bs)) (zero-lt-suc 11) ∙ add-one n in
-    rw e (ap (λ (l : List Record). decode bs ∷ l) (upTo-same n _ _ (λ i lt. ap decode (next i))))
-  where
-    next : (i : ℕ) → drop (12 * suc i) bs ≡ drop (12 * i) (drop 12 bs)
-    next i = rw (mul-suc 12 i, add-comm (12 * i) 12) (sym (drop-drop (12 * i) 12 bs))
-
 -- records whose numbers fit their bytes
 abbrev pub AllFit : List Record → Type 0
-AllFit [] = Unit {0}
-AllFit (r ∷ rs) = Fits r × AllFit rs
+AllFit = Each Fits
 
 pub records-back : (rs : List Record) → AllFit rs → records (encodeAll rs) ≡ rs
-unfolding encodeAll encode records upTo
-records-back [] f = refl
-records-back (r ∷ rs) f =
-    records-more (encode r ++ encodeAll rs) (omega arith) ∙ (λ i. decode-encode r (encodeAll rs) (f .0) i ∷ records-back rs (f .1) i)
+unfolding records encode
+records-back rs f =
+    blocks-back 12 decode encode (zero-lt-suc 11) rs (each-same (λ r h. refl) rs f) (each-same (λ r h bs. decode-encode r bs h) rs f)
 
 file-back : (n : ℕ) (bs : List ℕ) → Bytes bs → length bs ≡ 12 * n → encodeAll (records bs) ≡ bs
-unfolding encodeAll records upTo
+unfolding flatMap records upTo
 file-back zero [] bytes e = refl
 file-back zero (b ∷ bs) bytes e = absurd (omega arith)
 file-back (suc n) bs bytes e =
     let h : 12 ≤ length bs = omega arith in
-    ap encodeAll (records-more bs h)
+    ap encodeAll (blocks-more 12 decode bs (zero-lt-suc 11) h)
     ∙ (λ i. encode-decode bs bytes h i ++ file-back n (drop 12 bs) (λ j. rw getD-drop (bytes (12 + j))) (rw length-drop (omega arith)) i)
     ∙ take-append-drop 12 bs
 

@@ -35,5 +35,4 @@ module _ (a b : Day) (t s : Table) (days : SameDay a b) (tables : (u v : ℕ) �
   same-records = rw (days .starts, days .requests, days .places, same-leg-records (metresOf t) (metresOf s) (b .places) tables)
 
   pub same-output : (out : List ℕ) → writeFile a t out ≡ writeFile b s out
-  unfolding writeFile
   same-output out = rw (same-refusal, same-records)

@@ -1,30 +1,72 @@
--- What writing a day gives: its records one behind another, or the first refusal that applies.
+-- What is written: bytes into a buffer, or the first refusal that applies; and of a day its records one behind another.
 -- Assumes nothing.
-use Prim.Native.Nat.{ℕ, _+_, _*_, _<_, _≤_}
+use Prim.Native.Nat.{ℕ, zero, suc, _+_, _*_, _<_, _≤_}
+use mathlib.Core.Bool.{Bool, true}
 use mathlib.Core.List.{List, _++_, map, append-assoc}
-use mathlib.Core.Path.{_≡_, ap, _∙_}
+use mathlib.Core.Path.{_≡_, refl, ap, _∙_}
+use lib.Dec.{leb}
 use lib.ListN.{length, length-append, length-map}
+use lib.Seq.{take-at}
 use native.Mathlib.Omega.{arith}
 use Rattle.base.specs.Lists.{splice}
-use Rattle.base.proofs.Numbers.{zeros-told, refused-first}
+use Rattle.base.specs.Numbers.{unless, _then_, unlessRefused}
+use Rattle.base.proofs.Numbers.{then-zero, zeros-told, refused-first, accepted-values}
 use borrow.Author.Tests.{le-leb, lt-leb}
 use Rattle.road.specs.Table.{Table, metresOf}
 use Rattle.dayfile.specs.declared.Day.{Day}
 use Rattle.dayfile.specs.declared.codec.Record.{Record}
 use Rattle.dayfile.specs.Codec.{encodeAll}
-use Rattle.dayfile.specs.Day.{dayStarts, dayRequests, dayRefusal, stop, dayRecords}
-use Rattle.dayfile.specs.File.{dayBytes, writeRefusal, writeFile}
+use Rattle.dayfile.specs.Day.{dayStarts, dayRequests, stop, dayRecords}
+use Rattle.dayfile.specs.File.{Output, bytesWritten, outputBy, outputOf, dayBytes}
 use Rattle.dayfile.specs.Legs.{legCount, legRecords}
 use Rattle.dayfile.proofs.codec.Laws.{length-encodeAll, put-on}
 use Rattle.dayfile.proofs.legs.Laws.{length-legRecords}
 
--- a refusal of the tests in memory
-pub day-refused : (day : Day) (t : Table) (out : List ℕ) (n : ℕ) → n ≡ dayRefusal day t → (n ≡ 0 → ⊥)
-    → record { number = n; length = 0; buffer = out } ≡ writeFile day t out
-unfolding writeFile
-day-refused day t out n e h =
-    let first : n ≡ writeRefusal day t out = rw (← e) (refused-first n _ h) in
-    rw (← first) (zeros-told n _ (λ m. record { number = m; length = 0; buffer = out }) h)
+-- ---- bytes written into a buffer, after some tests
+
+first-decides : {A : Type 0} (n : ℕ) (b : Bool) (k : ℕ) (values : A) (zeros : ℕ → A) → (n ≡ 0 → b ≡ true)
+    → unlessRefused (n then unless b k) values zeros ≡ unlessRefused n values zeros
+first-decides zero b k values zeros h = rw (h refl)
+first-decides (suc n) b k values zeros h = refl
+
+module _ (tests : ℕ) (bytes out : List ℕ) where
+  -- the tests refuse
+  pub output-refused : (n : ℕ) → n ≡ tests → (n ≡ 0 → ⊥) → record { number = n; length = 0; buffer = out } ≡ outputOf tests bytes out
+  unfolding outputOf
+  output-refused n e h =
+      rw (← e, ← refused-first n (unless (leb (length bytes) (length out)) 11) h) (zeros-told n _ (λ m. record { number = m; length = 0; buffer = out }) h)
+
+  module _ (accepted : tests ≡ 0) {n : ℕ} (long : length bytes ≡ n) where
+    -- 11
+    pub output-short : length out < n → record { number = 11; length = 0; buffer = out } ≡ outputOf tests bytes out
+    unfolding outputOf
+    output-short h = rw (accepted, lt-leb (length bytes) (length out) (omega arith))
+
+    pub output-written : (now : List ℕ) → n ≤ length out → now ≡ splice 0 bytes out → record { number = 0; length = n; buffer = now } ≡ outputOf tests bytes out
+    unfolding outputOf
+    output-written now h e = rw (accepted, le-leb (length bytes) (length out) (omega arith), long, e)
+
+  -- where there is room for what the tests accept, they alone decide
+  pub output-decided : (tests ≡ 0 → length bytes ≤ length out)
+      → outputOf tests bytes out ≡ outputBy tests bytes out
+  unfolding outputOf
+  output-decided room = first-decides tests (leb (length bytes) (length out)) 11 _ _ (λ e. le-leb (length bytes) (length out) (room e))
+
+  -- where bytes are written no test refused, and all of them are written
+  pub output-accepted : outputOf tests bytes out .number ≡ 0
+      → (tests ≡ 0) × (outputOf tests bytes out ≡ record { number = 0; length = length bytes; buffer = splice 0 bytes out })
+  unfolding outputOf
+  output-accepted h =
+      let none : (tests then unless (leb (length bytes) (length out)) 11) ≡ 0 =
+      accepted-values {A = Output} _ _ (λ n. record { number = n; length = 0; buffer = out }) (λ o. o .number) (λ n. refl) h
+      in
+      (then-zero tests _ none .0, rw none)
+
+  pub output-bytes : outputOf tests bytes out .number ≡ 0 → bytesWritten (outputOf tests bytes out) ≡ bytes
+  unfolding splice
+  output-bytes h = rw (output-accepted h .1) (take-at bytes _ _ refl)
+
+-- ---- a day's file
 
 module _ (day : Day) (t : Table) (k : length (dayStarts day) ≡ day .cranes) (m : length (dayRequests day) ≡ day .calls) where
   abbrev legs : List Record
@@ -62,15 +104,3 @@ module _ (day : Day) (t : Table) (k : length (dayStarts day) ≡ day .cranes) (m
       let before : b ≡ splice 0 (encodeAll (legs ++ cranes)) old = q ∙ rw (p, first) (put-on 0 legs old cranes (omega arith)) in
       r ∙ rw (before, second) (put-on 0 (legs ++ cranes) old calls (omega arith))
       ∙ ap (λ (rs : List Record). splice 0 (encodeAll rs) old) (append-assoc legs cranes calls)
-
-  module _ (out : List ℕ) (e : dayRefusal day t ≡ 0) where
-    -- 11
-    pub too-short : length out < 12 * (legCount (day .places) + day .cranes + day .calls) → record { number = 11; length = 0; buffer = out } ≡ writeFile day t out
-    unfolding writeFile
-    too-short h = rw (e, lt-leb (length (dayBytes day (metresOf t))) (length out) (omega (arith, length-day)))
-
-    pub day-written : (n : ℕ) (now : List ℕ) → n ≡ 12 * (legCount (day .places) + day .cranes + day .calls) → n ≤ length out → now ≡ splice 0 (dayBytes day (metresOf t)) out
-        → record { number = 0; length = n; buffer = now } ≡ writeFile day t out
-    unfolding writeFile
-    day-written n now q h w =
-        rw (e, le-leb (length (dayBytes day (metresOf t))) (length out) (omega (arith, length-day)), q, w, length-day)

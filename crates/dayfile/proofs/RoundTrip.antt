@@ -6,13 +6,12 @@ use mathlib.Core.Path.{_≡_, refl, sym, ap, _∙_}
 use borrow.Author.Tests.{eqb-true, le-leb}
 use lib.Dec.{eqb}
 use lib.ListN.{length, getD}
-use lib.Seq.{take-at}
 use native.Mathlib.Nat.{mul-mod-right}
 use native.Mathlib.Omega.{arith}
 use Rattle.base.specs.Lists.{upTo, splice}
 use Rattle.base.specs.Metric.{Metric}
 use Rattle.base.proofs.Lists.{upTo-same, take-upTo, take-padded, length-padded}
-use Rattle.base.proofs.Numbers.{then-zero, first-of, accepted-values}
+use Rattle.base.proofs.Numbers.{first-of}
 use Rattle.base.proofs.Tests.{by-order}
 use Rattle.road.specs.Table.{Table, metresOf}
 use Rattle.road.proofs.Table.{legs-hold}
@@ -22,7 +21,7 @@ use Rattle.dayfile.specs.declared.codec.Record.{Record}
 use Rattle.dayfile.specs.declared.scan.State.{State}
 use Rattle.dayfile.specs.Codec.{records, encodeAll}
 use Rattle.dayfile.specs.Day.{mostCranes, mostCalls, dayStarts, dayRequests, DayArrays, SameDay, dayRefusal, dayRecords}
-use Rattle.dayfile.specs.File.{stopFrom, dayOf, readFile, readTable, Output, bytesWritten, dayBytes, writeRefusal, writeFile}
+use Rattle.dayfile.specs.File.{stopFrom, dayOf, readFile, readTable, bytesWritten, outputOf, dayBytes, writeFile}
 use Rattle.dayfile.specs.Legs.{legCount, leg, legTable, legMetres}
 use Rattle.dayfile.specs.Scan.{start, lengthRefusal}
 use Rattle.dayfile.proofs.Answers.{File, file-read, accepted-file}
@@ -31,6 +30,7 @@ use Rattle.dayfile.proofs.Indices.{laid, Laid, laid-at, laid-out}
 use Rattle.dayfile.proofs.Limits.{Tested, stops-hold, enough-starts, enough-requests, day-tested, day-accepted, day-laid}
 use Rattle.dayfile.proofs.Grammar.{Run, Read, run-ended, run-progress, run-fits, all-read}
 use Rattle.dayfile.proofs.Runs.{state, run-day}
+use Rattle.dayfile.proofs.Outputs.{output-accepted, output-bytes}
 use Rattle.dayfile.proofs.codec.Laws.{length-encodeAll}
 use Rattle.dayfile.proofs.legs.Laws.{leg-count-most, between-up, between-down, between-self, between-both, table-at}
 use Rattle.dayfile.proofs.scan.Laws.{Progress, progress-start}
@@ -115,7 +115,7 @@ read-arrays bs h =
 -- file → day → file: in a buffer that is long enough the same bytes are written
 pub file-round-trip : (bs out : List ℕ) → ((i : ℕ) → getD bs i 0 < 256) → readFile bs .number ≡ 0 → length bs ≤ length out
     → writeFile (readFile bs .day) (readTable bs) out ≡ record { number = 0; length = length bs; buffer = splice 0 bs out }
-unfolding writeFile lengthRefusal dayOf
+unfolding outputOf lengthRefusal dayOf
 file-round-trip bs out bytes h le =
     let all : List Record = records bs in
     let t = accepted-file bs h in
@@ -204,8 +204,5 @@ module _ (day : Day) (t : Table) (tests : Tested day t) (arrays : DayArrays day)
 -- day → file → day: where a day is written, what is read of the bytes written is the same day, with the same table
 pub day-round-trip : (day : Day) (t : Table) (out : List ℕ) → DayArrays day → writeFile day t out .number ≡ 0
     → Back day t (bytesWritten (writeFile day t out))
-unfolding writeFile splice
 day-round-trip day t out arrays h =
-    let none : writeRefusal day t out ≡ 0 = accepted-values {A = Output} _ _ (λ n. record { number = n; length = 0; buffer = out }) (λ o. o .number) (λ n. refl) h in
-    let accepted : dayRefusal day t ≡ 0 = then-zero _ _ none .0 in
-    rw (none, take-at (dayBytes day (metresOf t)) _ _ refl) (back day t (day-tested day t accepted) arrays)
+    rw (output-bytes _ _ out h) (back day t (day-tested day t (output-accepted _ _ out h .0)) arrays)

@@ -1,8 +1,8 @@
 -- The bytes of a record: "Records of 12 bytes, no header, little-endian."
 use Prim.Native.Nat.{ℕ, zero, suc, _+_, _*_, _/_, _%_}
-use mathlib.Core.List.{List, [], _∷_, _++_}
-use lib.ListN.{length, getD, drop}
-use Rattle.base.specs.Lists.{upTo}
+use mathlib.Core.List.{List, [], _∷_, _++_, flatMap}
+use lib.ListN.{getD}
+use Rattle.base.specs.Lists.{blocks}
 use Rattle.dayfile.specs.declared.codec.Record.{Record}
 
 -- the number in a list of bytes, the lowest first
@@ -40,9 +40,8 @@ encode r = r .kind ∷ r .pad ∷ (bytesOf 2 (r .first) ++ (bytesOf 2 (r .second
 
 -- "Records of 12 bytes, no header": the records of a file, whose length is tested before
 unfoldable pub records : List ℕ → List Record
-records bs = upTo (length bs / 12) (λ i. decode (drop (12 * i) bs))
+records bs = blocks 12 decode bs
 
 -- the file of some records
-unfoldable pub encodeAll : List Record → List ℕ
-encodeAll [] = []
-encodeAll (r ∷ rs) = encode r ++ encodeAll rs
+abbrev pub encodeAll : List Record → List ℕ
+encodeAll rs = flatMap encode rs

@@ -92,13 +92,15 @@ written r out = record { number = numberOf (r .verdict); length = r .length; buf
 abbrev pub dayBytes : Day → (ℕ → ℕ → ℕ) → List ℕ
 dayBytes day d = encodeAll (dayRecords day d)
 
--- the same tests as in memory, then "output buffer shorter than the result"
-abbrev pub writeRefusal : Day → Table → List ℕ → ℕ
-writeRefusal day t out = dayRefusal day t then unless (leb (length (dayBytes day (metresOf t))) (length out)) 11
+-- bytes written into a buffer where the number is 0: "written output past the result's length is unchanged"; refused, all of it is
+abbrev pub outputBy : ℕ → List ℕ → List ℕ → Output
+outputBy number bytes out =
+    unlessRefused number (record { number = 0; length = length bytes; buffer = splice 0 bytes out }) (λ n. record { number = n; length = 0; buffer = out })
 
--- "written output past the result's length is unchanged"; refused, all of it is
-unfoldable pub writeFile : Day → Table → List ℕ → Output
-writeFile day t out =
-    unlessRefused (writeRefusal day t out)
-    (record { number = 0; length = length (dayBytes day (metresOf t)); buffer = splice 0 (dayBytes day (metresOf t)) out })
-    (λ n. record { number = n; length = 0; buffer = out })
+-- after some tests, "output buffer shorter than the result" gives 11
+unfoldable pub outputOf : ℕ → List ℕ → List ℕ → Output
+outputOf tests bytes out = outputBy (tests then unless (leb (length bytes) (length out)) 11) bytes out
+
+-- a day's file, after the same tests as in memory
+abbrev pub writeFile : Day → Table → List ℕ → Output
+writeFile day t out = outputOf (dayRefusal day t) (dayBytes day (metresOf t)) out

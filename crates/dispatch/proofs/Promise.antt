@@ -1,16 +1,17 @@
 -- The third promise: what the two costs of a sound book, the figures of a served call and those of a served day are the least of:
 -- of every movement and of every rearrangement, several cranes at a time included. Assumes nothing.
-use Prim.Native.Nat.{ℕ, suc, _+_, _<_}
+use Prim.Native.Nat.{ℕ, suc, _+_, _*_, _<_}
 use mathlib.Core.List.{List, [], List·Memᴰ·not-nil}
 use mathlib.Core.Path.{_≡_, refl, sym, _∙_}
 use borrow.Author.Tests.{ltb-true}
 use lib.Dec.{ltb}
 use lib.ListN.{length, getD, take}
+use native.Mathlib.Nat.{zero-add}
 use Rattle.base.specs.Lists.{upTo}
 use Rattle.base.proofs.Lists.{getD-padded, take-padded, take-upTo}
 use Rattle.base.proofs.Numbers.{then-zero, first-of}
-use Rattle.road.specs.Table.{Table, metresOf}
-use Rattle.road.proofs.Surveyed.{surveyed-metric}
+use Rattle.road.specs.Table.{Table, mostMetres, metresOf}
+use Rattle.road.proofs.Surveyed.{surveyed-metric, surveyed-short}
 use Rattle.dayfile.specs.declared.Day.{Day}
 use Rattle.dayfile.specs.Day.{mostCranes, mostCalls, dayStarts, dayRequests, DayArrays, dayRefusal}
 use Rattle.dayfile.proofs.Limits.{Tested, day-tested, enough-starts, length-starts, length-requests}
@@ -18,14 +19,14 @@ use Rattle.workfunction.specs.Choice.{moveSum, rearrangementSum}
 use Rattle.workfunction.specs.Least.{IsLeast}
 use Rattle.workfunction.specs.Movement.{Instance, Serves, LeastTo, LeastOfAll, work, floor}
 use Rattle.workfunction.specs.Plan.{planCost, legCost}
-use Rattle.workfunction.specs.Serving.{servedBy, standsAfter}
+use Rattle.workfunction.specs.Serving.{Served, servedBy, serve, standsAfter}
 use Rattle.workfunction.proofs.Choice.{choice-least}
 use Rattle.workfunction.proofs.Movement.{work-least, floor-least, instance-first, work-none, floor-none}
 use Rattle.workfunction.proofs.Position.{distance-self}
-use Rattle.workfunction.proofs.Serving.{serve-least}
+use Rattle.workfunction.proofs.Serving.{serve-least, Bounded, serve-bounded}
 use Rattle.book.specs.declared.Book.{Book}
 use Rattle.book.specs.Book.{startsOf, standsOf, requestsOf, stopsOf, follower, BookArrays, bookRefusal, freshBook}
-use Rattle.dispatch.specs.Serving.{servingRefusal, unserved, figuresOf, costsOf, servedDay}
+use Rattle.dispatch.specs.Serving.{servingRefusal, unserved, figuresOf, costsOf, nth, servedDay}
 use Rattle.book.proofs.FreshBook.{fresh-sound}
 use Rattle.book.proofs.Sound.{placed, Sound, book-sound, sound-metric, sound-instance, sound-standing, sound-work}
 
@@ -97,6 +98,10 @@ module _ (day : Day) (t : Table) (arrays : DayArrays day) (accepted : dayRefusal
     abbrev stands : List ℕ
     stands = standsAfter (metresOf t) (day .places) (dayStarts day) [] (dayStarts day) first
 
+    -- the figures of all calls
+    abbrev all : List Served
+    all = serve (metresOf t) (day .places) (dayStarts day) [] (dayStarts day) (dayRequests day)
+
     day-least-is : getD (servedDay day t .leasts) i 0 ≡ work (metresOf t) (day .places) (dayStarts day) first stands
     unfolding servedDay
     day-least-is =
@@ -107,6 +112,25 @@ module _ (day : Day) (t : Table) (arrays : DayArrays day) (accepted : dayRefusal
     -- the least that is told of call i is the least cost of all movements that serve them and end at those stands
     pub day-least : LeastTo (metresOf t) (day .places) (dayStarts day) first stands (getD (servedDay day t .leasts) i 0)
     day-least = rw day-least-is (work-least (metresOf t) (instance-first (suc i) day-instance) stands)
+
+    -- its figures are within the limits: each call raises the least by no more than the longest leg there may be
+    pub day-bounded : Bounded (day .cranes) mostMetres ((i + 1) * mostMetres)
+        (record { crane = getD (servedDay day t .cranes) i 0; metres = getD (servedDay day t .metres) i 0; least = getD (servedDay day t .leasts) i 0 })
+    unfolding servedDay
+    day-bounded =
+        let laws = surveyed-metric (tests .surveyed) in
+        let long = length-requests day arrays (tests .counts .calls) in
+        let none = work-none (metresOf t) (day .places) (dayStarts day) (dayStarts day) ∙ distance-self laws (day-instance .started) in
+        let bounded = serve-bounded laws (surveyed-short (tests .surveyed)) unserved [] (dayStarts day) (dayRequests day) (instance-first 0 day-instance)
+        (day-instance .started) (λ r m. day-instance .called m) i (rw long called)
+        in
+        rw (
+          accepted,
+          getD-padded mostCalls (day .calls) (λ j. nth all j .crane) 0 0 i called,
+          getD-padded mostCalls (day .calls) (λ j. nth all j .metres) 0 0 i called,
+          getD-padded mostCalls (day .calls) (λ j. nth all j .least) 0 0 i called,
+        )
+        (rw (none, zero-add, length-starts day arrays (tests .counts .cranes)) at bounded)
 
   -- ---- its fresh book
 

@@ -3,12 +3,13 @@
 use mathlib.Core.Bool.{true}
 use mathlib.Core.List.{flatMap, headD}
 use mathlib.Core.Path.{_≡_, refl}
-use Rattle.base.specs.Lists.{upTo}
+use Rattle.base.specs.Decimal.{upToDigits, decimal}
+use Rattle.base.specs.Lists.{upTo, splice}
 use Rattle.base.specs.Tests.{within, allBelow}
 use Rattle.road.specs.Table.{legRule}
 use Rattle.dayfile.specs.Codec.{decode, records}
 use Rattle.dayfile.specs.Day.{countsRefusal, placedRefusal, dayRefusal}
-use Rattle.dayfile.specs.File.{dayOf, tested, readFile}
+use Rattle.dayfile.specs.File.{dayOf, tested, readFile, outputOf}
 use Rattle.dayfile.specs.Legs.{legCount, between, legRow, legTable}
 use Rattle.dayfile.specs.Scan.{afterLeg, after, lengthRefusal, bareRefusal, formRefusal, legRefusal, stopRefusal, craneRefusal, callRefusal, recordRefusal, endRefusal, scan}
 use Rattle.workfunction.specs.Lists.{minimum, insertions, permutations, sumBelow, filter, leastBy, sections}
@@ -19,10 +20,12 @@ use Rattle.workfunction.specs.Serving.{servedBy, serve}
 use Rattle.workfunction.specs.Plan.{mayFollow, follows, followersRule, onceRule, planRule, slackRule, vouchAt, vouchRule, place, legCost}
 use Rattle.book.specs.Book.{weightRule, bookRefusal, freshBook, freshOf}
 use Rattle.dispatch.specs.Serving.{servedOf, costsOf, servedDay}
-use Rattle.report.specs.Text.{upToDigits, decimal, callLine, lastLine, callLines, dayText}
-use Rattle.report.specs.Report.{figuresText, printOf}
+use Rattle.report.specs.Text.{callLine, lastLine, callLines, dayText}
+use Rattle.sheet.specs.Row.{aligned, rowBytes, valueOf, readRow}
+use Rattle.sheet.specs.Sheet.{sheetRows}
+use Rattle.report.specs.Report.{figuresText, sheetText, printOf, sheetPrintOf}
 use Rattle.edges.specs.Cases.{cases, same, agrees, allAgree}
 
 pub cases-agree : allAgree cases ≡ true
-unfolding cases same agrees allAgree upTo within allBelow legRule decode records countsRefusal placedRefusal dayRefusal dayOf tested readFile legCount between legRow legTable afterLeg after lengthRefusal bareRefusal formRefusal legRefusal stopRefusal craneRefusal callRefusal recordRefusal endRefusal scan flatMap headD minimum insertions permutations sumBelow filter leastBy sections positions pairing distance contains movements cost work floor narrowed preferred drive moveSum choice servedBy serve mayFollow follows followersRule onceRule planRule slackRule vouchAt vouchRule place legCost weightRule bookRefusal freshBook freshOf servedOf costsOf servedDay upToDigits decimal callLine lastLine callLines dayText figuresText printOf
+unfolding cases same agrees allAgree upTo within allBelow legRule decode records countsRefusal placedRefusal dayRefusal dayOf tested readFile legCount between legRow legTable afterLeg after lengthRefusal bareRefusal formRefusal legRefusal stopRefusal craneRefusal callRefusal recordRefusal endRefusal scan flatMap headD minimum insertions permutations sumBelow filter leastBy sections positions pairing distance contains movements cost work floor narrowed preferred drive moveSum choice servedBy serve mayFollow follows followersRule onceRule planRule slackRule vouchAt vouchRule place legCost weightRule bookRefusal freshBook freshOf servedOf costsOf servedDay upToDigits decimal callLine lastLine callLines dayText figuresText sheetText printOf sheetPrintOf splice outputOf aligned rowBytes valueOf readRow sheetRows
 cases-agree = refl

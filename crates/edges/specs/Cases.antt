@@ -1,18 +1,22 @@
 -- Document 01's cases marked P and those of the papers, as one table: what is given, and what is said of it.
 use Prim.Native.Nat.{ℕ, _-_}
 use mathlib.Core.Bool.{Bool, true, false, _&&_}
-use mathlib.Core.List.{List, [], _∷_, _++_, map}
+use mathlib.Core.List.{List, [], _∷_, _++_, map, flatMap}
 use lib.Dec.{eqb}
 use lib.ListN.{length, replicate}
 use Rattle.base.specs.Lists.{upTo}
 use Rattle.road.specs.Table.{Table, mostPlaces, metresOf, tableRefusal}
 use Rattle.dayfile.specs.Day.{mostCranes, mostCalls}
-use Rattle.dayfile.specs.File.{readFile}
+use Rattle.dayfile.specs.declared.Day.{Day}
+use Rattle.dayfile.specs.File.{readFile, Output}
 use Rattle.workfunction.specs.Choice.{moveSum}
 use Rattle.book.specs.Book.{startsOf, standsOf, requestsOf, freshOf}
 use Rattle.book.specs.declared.Book.{Book}
 use Rattle.dispatch.specs.Serving.{Outcome, servedOf, TwoCosts, costsOf}
-use Rattle.report.specs.Report.{printOf}
+use Rattle.sheet.specs.declared.row.Row.{Row}
+use Rattle.sheet.specs.Row.{rowBytes}
+use Rattle.sheet.specs.Sheet.{sheetOf, readSheet}
+use Rattle.report.specs.Report.{printOf, sheetPrintOf}
 
 pub data Case : Type 0 where
   -- a road table of so many places: its refusal, 0 where it is accepted
@@ -25,6 +29,14 @@ pub data Case : Type 0 where
   served : List (List ℕ) → List ℕ → ℕ → List ℕ → ℕ → ℕ → ℕ → Case
   -- the bytes of a day file: all bytes of the print
   print : List ℕ → List ℕ → Case
+  -- the bytes of a day file: all bytes of its sheet
+  posted : List ℕ → List ℕ → Case
+  -- a road table, starts and calls, and a buffer: the number, the length, and the whole buffer after the sheet is written
+  sheet : List (List ℕ) → List ℕ → List ℕ → List ℕ → ℕ → ℕ → List ℕ → Case
+  -- call, place, crane, metres and least: all bytes of the row
+  row : ℕ → ℕ → ℕ → ℕ → ℕ → List ℕ → Case
+  -- all bytes of a sheet: the five values of each row
+  values : List ℕ → List ℕ → Case
 
 -- one place
 abbrev one : List (List ℕ)
@@ -67,10 +79,35 @@ printA =
     -- driven 35 floor 15
     100 ∷ 114 ∷ 105 ∷ 118 ∷ 101 ∷ 110 ∷ 32 ∷ 51 ∷ 53 ∷ 32 ∷ 102 ∷ 108 ∷ 111 ∷ 111 ∷ 114 ∷ 32 ∷ 49 ∷ 53 ∷ 10 ∷ []
 
+-- paper 2: case A's sheet
+abbrev sheetA : List ℕ
+sheetA =
+    --   0  1  0      10        10
+    32 ∷ 32 ∷ 48 ∷ 32 ∷ 32 ∷ 49 ∷ 32 ∷ 32 ∷ 48 ∷ 32 ∷ 32 ∷ 32 ∷ 32 ∷ 32 ∷ 32 ∷ 49 ∷ 48 ∷ 32 ∷ 32 ∷ 32 ∷ 32 ∷ 32 ∷ 32 ∷ 32 ∷ 32 ∷ 49 ∷ 48 ∷ 10 ∷
+    --   1  0  0      10        20
+    32 ∷ 32 ∷ 49 ∷ 32 ∷ 32 ∷ 48 ∷ 32 ∷ 32 ∷ 48 ∷ 32 ∷ 32 ∷ 32 ∷ 32 ∷ 32 ∷ 32 ∷ 49 ∷ 48 ∷ 32 ∷ 32 ∷ 32 ∷ 32 ∷ 32 ∷ 32 ∷ 32 ∷ 32 ∷ 50 ∷ 48 ∷ 10 ∷
+    --   2  1  1      15        15
+    32 ∷ 32 ∷ 50 ∷ 32 ∷ 32 ∷ 49 ∷ 32 ∷ 32 ∷ 49 ∷ 32 ∷ 32 ∷ 32 ∷ 32 ∷ 32 ∷ 32 ∷ 49 ∷ 53 ∷ 32 ∷ 32 ∷ 32 ∷ 32 ∷ 32 ∷ 32 ∷ 32 ∷ 32 ∷ 49 ∷ 53 ∷ 10 ∷ []
+
 unfoldable pub cases : List Case
 cases =
     -- "Case A, marked P"
     print fileA printA ∷
+    -- paper 2: its sheet, from the file; into 83, 84 and 85 bytes; by 8 before 11; and read back
+    posted fileA sheetA ∷
+    sheet (three 10 20 15) (0 ∷ 2 ∷ []) (1 ∷ 0 ∷ 1 ∷ []) (replicate 83 7) 11 0 (replicate 83 7) ∷
+    sheet (three 10 20 15) (0 ∷ 2 ∷ []) (1 ∷ 0 ∷ 1 ∷ []) (replicate 84 7) 0 84 sheetA ∷
+    sheet (three 10 20 15) (0 ∷ 2 ∷ []) (1 ∷ 0 ∷ 1 ∷ []) (replicate 85 7) 0 84 (sheetA ++ (7 ∷ [])) ∷
+    sheet (three 10 26 15) (0 ∷ 2 ∷ []) (1 ∷ 0 ∷ 1 ∷ []) (replicate 83 7) 8 0 (replicate 83 7) ∷
+    values sheetA (0 ∷ 1 ∷ 0 ∷ 10 ∷ 10 ∷ 1 ∷ 0 ∷ 0 ∷ 10 ∷ 20 ∷ 2 ∷ 1 ∷ 1 ∷ 15 ∷ 15 ∷ []) ∷
+    -- paper 2: "no calls give no bytes", and every buffer is long enough
+    sheet (three 10 20 15) (0 ∷ 2 ∷ []) [] [] 0 0 [] ∷
+    sheet (three 10 20 15) (0 ∷ 2 ∷ []) [] (7 ∷ 7 ∷ []) 0 0 (7 ∷ 7 ∷ []) ∷
+    -- paper 2: the widest values, and the shortest
+    row 255 63 15 1000000 256000000
+    (50 ∷ 53 ∷ 53 ∷ 32 ∷ 54 ∷ 51 ∷ 32 ∷ 49 ∷ 53 ∷ 32 ∷ 49 ∷ 48 ∷ 48 ∷ 48 ∷ 48 ∷ 48 ∷ 48 ∷ 32 ∷ 50 ∷ 53 ∷ 54 ∷ 48 ∷ 48 ∷ 48 ∷ 48 ∷ 48 ∷ 48 ∷ 10 ∷ []) ∷
+    row 0 0 0 0 0
+    (32 ∷ 32 ∷ 48 ∷ 32 ∷ 32 ∷ 48 ∷ 32 ∷ 32 ∷ 48 ∷ 32 ∷ 32 ∷ 32 ∷ 32 ∷ 32 ∷ 32 ∷ 32 ∷ 48 ∷ 32 ∷ 32 ∷ 32 ∷ 32 ∷ 32 ∷ 32 ∷ 32 ∷ 32 ∷ 32 ∷ 48 ∷ 10 ∷ []) ∷
     -- "one place, one crane, one call at 0: crane 0, metres 0, least 0"
     served one (0 ∷ []) 0 (0 ∷ []) 0 0 0 ∷
     -- "legs 10, 20, 10, cranes at 0 and 2, call 1: both give 20; crane 0"
@@ -120,12 +157,14 @@ array n z l = l ++ replicate (n - length l) z
 abbrev roads : List (List ℕ) → Table
 roads rows = array mostPlaces (replicate mostPlaces 0) (map (array mostPlaces 0) rows)
 
+-- the day of such a table, starts and calls
+abbrev dayOf : List (List ℕ) → List ℕ → List ℕ → Day
+dayOf rows starts calls =
+    record { places = length rows; cranes = length starts; calls = length calls; starts = array mostCranes 0 starts; requests = array mostCalls 0 calls }
+
 -- the book that is opened for a day without calls
 abbrev opened : List (List ℕ) → List ℕ → Book
-opened rows starts =
-    freshOf
-    (record { places = length rows; cranes = length starts; calls = 0; starts = array mostCranes 0 starts; requests = replicate mostCalls 0 })
-    (roads rows) .book
+opened rows starts = freshOf (dayOf rows starts []) (roads rows) .book
 
 -- w(C(s)) + d(s,r) of each crane s
 abbrev sums : List (List ℕ) → Book → ℕ → List ℕ
@@ -147,6 +186,14 @@ costs w f c = eqb (c .number) 0 && eqb (c .least) w && eqb (c .floor) f
 abbrev figures : ℕ → ℕ → ℕ → Outcome → Bool
 figures s m w o = eqb (o .number) 0 && eqb (o .figures .crane) s && eqb (o .figures .metres) m && eqb (o .figures .least) w
 
+-- what a buffer holds after, with the number and the length
+abbrev output : ℕ → ℕ → List ℕ → Output → Bool
+output n k out o = eqb (o .number) n && eqb (o .length) k && same (o .buffer) out
+
+-- the values of a row, one behind another
+abbrev five : Row → List ℕ
+five r = r .call ∷ r .place ∷ r .crane ∷ r .metres ∷ r .least ∷ []
+
 -- The figures of a call do not depend on the plan and the weights of the book after it, which are left out.
 unfoldable pub agrees : Case → Bool
 agrees (table n rows r) = eqb (tableRefusal n (roads rows)) r
@@ -155,6 +202,10 @@ agrees (fresh rows starts w f) = costs w f (costsOf (opened rows starts) (length
 agrees (served rows starts r l s m w) =
     same (sums rows (opened rows starts) r) l && figures s m w (servedOf (opened rows starts) (length rows) (roads rows) r [] [])
 agrees (print bs out) = same (printOf bs) out
+agrees (posted bs out) = same (sheetPrintOf bs) out
+agrees (sheet rows starts calls before n k out) = output n k out (sheetOf (dayOf rows starts calls) (roads rows) before)
+agrees (row i r s m w bs) = same (rowBytes (record { call = i; place = r; crane = s; metres = m; least = w })) bs
+agrees (values bs l) = same (flatMap five (readSheet bs)) l
 
 unfoldable pub allAgree : List Case → Bool
 allAgree [] = true

@@ -3,7 +3,8 @@
 use Prim.Native.Nat.{ℕ}
 use mathlib.Core.List.{List, [], _∷_}
 use mathlib.Core.Path.{_≡_, refl}
-use Rattle.report.specs.Text.{upToDigits, decimal, refusedLine}
+use Rattle.base.specs.Decimal.{upToDigits, decimal}
+use Rattle.report.specs.Text.{refusedLine}
 
 -- refused 3 record 12
 abbrev refusal : List ℕ

@@ -1,25 +1,31 @@
--- What the print is, from what reading the file and serving its day gave, and that it fits its array.
+-- What the print and the sheet are, from what reading the file and serving its day gave, and that they fit their array.
 -- Assumes nothing.
-use Prim.Native.Nat.{ℕ, _≤_, zero-le}
+use Prim.Native.Nat.{ℕ, zero, suc, _≤_, zero-le}
 use mathlib.Core.List.{List}
-use mathlib.Core.Path.{_≡_}
+use mathlib.Core.Path.{_≡_, sym, ap, _∙_}
 use lib.ListN.{length, getD, replicate}
+use lib.Seq.{length-take-le}
 use native.Mathlib.Nat.{zero-add}
 use native.Mathlib.Omega.{arith}
 use Rattle.base.specs.Lists.{splice}
+use Rattle.base.specs.Numbers.{unlessRefused}
 use Rattle.base.proofs.Lists.{drop-replicate}
 use Rattle.base.proofs.Numbers.{zeros-told, either-told}
+use Rattle.io.specs.Counts.{Counts}
 use Rattle.road.specs.Table.{Table}
 use Rattle.dayfile.specs.declared.Day.{Day}
-use Rattle.dayfile.specs.Day.{mostCalls, dayRefusal}
-use Rattle.dayfile.specs.File.{Answer, readFile, readTable}
+use Rattle.dayfile.specs.Day.{mostCalls, DayArrays, dayRefusal}
+use Rattle.dayfile.specs.File.{Answer, readFile, readTable, Output, outputBy}
 use Rattle.dayfile.proofs.Limits.{day-tested}
-use Rattle.dayfile.proofs.RoundTrip.{file-accepted}
+use Rattle.dayfile.proofs.Outputs.{output-decided}
+use Rattle.dayfile.proofs.RoundTrip.{file-accepted, read-arrays}
 use Rattle.dispatch.specs.Serving.{DayFigures, servedDay}
+use Rattle.sheet.specs.Sheet.{sheetBytes, sheetOf}
+use Rattle.sheet.proofs.Promise.{sheet-length}
 use Rattle.report.specs.declared.Printed.{Printed}
 use Rattle.report.specs.Text.{callLines, lastLine, refusedLine, dayText}
 use Rattle.report.specs.Put.{Put}
-use Rattle.report.specs.Report.{figuresText, printOf, printed}
+use Rattle.report.specs.Report.{figuresText, fileText, printOf, sheetText, sheetPrintOf, printed}
 use Rattle.report.proofs.text.Laws.{put-on, calls-most, day-fits, length-lastLine, length-refusedLine}
 
 -- ---- a served day
@@ -49,18 +55,44 @@ module _ (s : DayFigures) where
   day-put e calls long p q =
       rw e (put-on p q (omega (arith, q .behind, calls-most _ _ _ _ p, length-lastLine (s .driven) (s .floor))))
 
+-- ---- a sheet that was written
+
+-- the bytes, or the line of the refusal
+module _ (bytes out : List ℕ) (o : Output) where
+  bytes-put : (k : ℕ) → o ≡ outputBy k bytes out → o .number ≡ 0 → Put (unlessRefused k bytes (λ n. refusedLine n 0)) out 0 (o .buffer) (o .length)
+  bytes-put zero e h = record { buffer = rw e; behind = rw (e, zero-add) }
+  bytes-put (suc k) e h = let some : suc k ≡ 0 = rw e at h in absurd (omega arith)
+
+  line-put : (k : ℕ) → o ≡ outputBy k bytes out → (o .number ≡ 0 → ⊥) → {now : List ℕ} {r : ℕ} → Put (refusedLine (o .number) 0) (o .buffer) 0 now r
+      → Put (unlessRefused k bytes (λ n. refusedLine n 0)) out 0 now r
+  line-put zero e h p = absurd (h (rw e))
+  line-put (suc k) e h p = rw e at p
+
+module _ (day : Day) (t : Table) (arrays : DayArrays day) (out : List ℕ) (o : Output) (e : o ≡ sheetOf day t out) (long : 32768 ≤ length out) where
+  decided : o ≡ outputBy (dayRefusal day t) (sheetBytes day t) out
+  decided =
+      e ∙ output-decided (dayRefusal day t) (sheetBytes day t) out
+      (λ accepted. omega (arith, sheet-length day t accepted arrays, day-tested day t accepted .counts .calls))
+
+  pub sheet-refused : (n : ℕ) {now : List ℕ} {r : ℕ} → n ≡ o .number → (o .number ≡ 0 → ⊥) → Put (refusedLine n 0) (o .buffer) 0 now r
+      → Put (sheetText day t) out 0 now r
+  unfolding sheetText
+  sheet-refused n q h p = line-put (sheetBytes day t) out o (dayRefusal day t) decided h (rw (← q) p)
+
+  pub sheet-put : o .number ≡ 0 → Put (sheetText day t) out 0 (o .buffer) (o .length)
+  unfolding sheetText
+  sheet-put h = bytes-put (sheetBytes day t) out o (dayRefusal day t) decided h
+
 -- ---- a file that was read
 
-module _ (file : List ℕ) (a : Answer) (e : a ≡ readFile file) where
+module _ (told : Day → Table → List ℕ) (file : List ℕ) (a : Answer) (e : a ≡ readFile file) where
   pub file-refused : (n : ℕ) {old now : List ℕ} {r : ℕ} → n ≡ a .number → (a .number ≡ 0 → ⊥) → Put (refusedLine n (a .index)) old 0 now r
-      → Put (printOf file) old 0 now r
-  unfolding printOf
+      → Put (fileText told file) old 0 now r
   file-refused n q h p = rw (← e, ← zeros-told (a .number) _ (λ (k : ℕ). refusedLine k (a .index)) h, ← q) p
 
-  pub file-served : (table : List (List ℕ)) {old now : List ℕ} {r : ℕ} → table ≡ readTable file → a .number ≡ 0
-      → Put (figuresText (servedDay (a .day) table)) old 0 now r → Put (printOf file) old 0 now r
-  unfolding printOf
-  file-served table q z p = rw (← e, z) (rw (q, ← e) at p)
+  pub file-told : (table : List (List ℕ)) {old now : List ℕ} {r : ℕ} → table ≡ readTable file → a .number ≡ 0
+      → Put (told (a .day) table) old 0 now r → Put (fileText told file) old 0 now r
+  file-told table q z p = rw (← e, z) (rw (q, ← e) at p)
 
 -- the day of an accepted file is served: a file's own test leaves nothing for the day's to refuse
 pub accepted-served : (file : List ℕ) → readFile file .number ≡ 0 → servedDay (readFile file .day) (readTable file) .number ≡ 0
@@ -77,8 +109,29 @@ print-fits file =
     (λ e. figures-fit _ (served-calls (readFile file .day) (readTable file)))
     (λ n. omega (arith, length-refusedLine n (readFile file .index)))
 
+-- and so does the longest sheet
+day-sheet-fits : (day : Day) (t : Table) → DayArrays day → length (sheetText day t) ≤ 32768
+unfolding sheetText
+day-sheet-fits day t arrays =
+    either-told (λ (text : List ℕ). length text ≤ 32768) (dayRefusal day t) _ _
+    (λ e. omega (arith, sheet-length day t e arrays, day-tested day t e .counts .calls)) (λ n. omega (arith, length-refusedLine n 0))
+
+pub sheet-fits : (file : List ℕ) → length (sheetPrintOf file) ≤ 32768
+unfolding sheetPrintOf
+sheet-fits file =
+    either-told (λ (text : List ℕ). length text ≤ 32768) (readFile file .number) _ _
+    (λ e. day-sheet-fits (readFile file .day) (readTable file) (read-arrays file e))
+    (λ n. omega (arith, length-refusedLine n (readFile file .index)))
+
 -- a text written into the front of zeros
 pub put-printed : {text now : List ℕ} {r : ℕ} → Put text (replicate 32768 0) 0 now r
     → _≡_ {A = Printed} (record { length = r; text = now }) (printed text)
 unfolding splice printed
 put-printed p = rw (p .buffer, p .behind, zero-add, drop-replicate)
+
+-- a text that fits is within its array
+pub text-within : (r : Printed) (text : List ℕ) → r ≡ printed text → length text ≤ 32768 → length (r .text) ≡ 32768 → Counts (r .length) (r .text)
+unfolding printed
+text-within r text e fits long =
+    let within : r .length ≤ length (r .text) = omega (arith, ap (λ (p : Printed). p .length) e) in
+    (within, sym (length-take-le (r .length) (r .text) within))

@@ -1,11 +1,11 @@
--- What the print of an accepted file promises holds, for every file. Assumes nothing.
+-- What the print and the sheet of an accepted file promise holds, for every file. Assumes nothing.
 use Prim.Native.Nat.{ℕ, zero, suc, _<_, suc-le-suc}
 use mathlib.Core.List.{List, [], _++_}
 use mathlib.Core.Path.{_≡_, refl, ap, ap₂, _∙_}
 use lib.ListN.{getD}
 use native.Mathlib.Nat.{le-of-lt, le-refl}
 use Rattle.base.specs.Lists.{padded}
-use Rattle.base.proofs.Lists.{getD-padded}
+use Rattle.base.proofs.Lists.{upTo-same, getD-padded}
 use Rattle.dayfile.specs.Day.{mostCalls, DayArrays, dayRefusal}
 use Rattle.dayfile.specs.File.{readFile, readTable}
 use Rattle.dayfile.proofs.Limits.{day-tested, length-requests}
@@ -15,8 +15,10 @@ use Rattle.workfunction.proofs.Serving.{serve-at}
 use Rattle.workfunction.proofs.Sums.{sum-same}
 use Rattle.dispatch.specs.Serving.{nth, unserved, servedDay}
 use Rattle.dispatch.proofs.Promise.{day-least, day-floor}
-use Rattle.report.specs.Promise.{day, d, starts, calls, told, driven, lowest, PrintProved}
-use Rattle.report.specs.Report.{figuresText, printOf}
+use Rattle.sheet.specs.Sheet.{rowOf, sheetBytes}
+use Rattle.sheet.proofs.Promise.{sheet-rows, sheet-length, sheet-back}
+use Rattle.report.specs.Promise.{day, d, starts, calls, told, driven, lowest, PrintProved, SheetProved}
+use Rattle.report.specs.Report.{figuresText, printOf, sheetText, sheetPrintOf}
 use Rattle.report.specs.Text.{callLines, lastLine, dayText}
 
 -- lines of figures that agree for each call
@@ -77,4 +79,22 @@ module _ (file : List ℕ) (accepted : readFile file .number ≡ 0) where
     lines = lines-are;
     least = λ i called. rw (least-told i called) at (day-least (day file) (readTable file) arrays none i called);
     floored = rw floor-told at (day-floor (day file) (readTable file) arrays none);
+  }
+
+  sheet-is : sheetPrintOf file ≡ sheetBytes (day file) (readTable file)
+  unfolding sheetPrintOf sheetText
+  sheet-is = rw (accepted, none)
+
+  row-is : (i : ℕ) → i < day file .calls → rowOf (day file) (readTable file) i
+      ≡ record { call = i; place = getD (calls file) i 0; crane = told file i .crane; metres = told file i .metres; least = told file i .least }
+  unfolding servedDay all
+  row-is i called =
+      let figure = figure-is i called in
+      rw none (λ j. record { call = i; place = getD (calls file) i 0; crane = figure (λ s. s .crane) j; metres = figure (λ s. s .metres) j; least = figure (λ s. s .least) j })
+
+  -- and of its sheet
+  pub sheet-proved : SheetProved file
+  sheet-proved = record {
+    long = rw sheet-is (sheet-length (day file) (readTable file) none arrays);
+    rows = rw sheet-is (sheet-back (day file) (readTable file) none arrays ∙ sheet-rows (day file) (readTable file) none ∙ upTo-same (day file .calls) _ _ row-is);
   }

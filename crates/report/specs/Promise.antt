@@ -1,9 +1,10 @@
 -- What the print of an accepted file promises, from its bytes to its figures: the answer to the hirer who asks how anyone can know
--- that the calls could not have been served on less.
-use Prim.Native.Nat.{ℕ, suc, _<_}
+-- that the calls could not have been served on less. And that its sheet has the same figures.
+use Prim.Native.Nat.{ℕ, suc, _*_, _<_}
 use mathlib.Core.List.{List, []}
 use mathlib.Core.Path.{_≡_}
-use lib.ListN.{getD, take}
+use lib.ListN.{length, getD, take}
+use Rattle.base.specs.Lists.{upTo}
 use Rattle.road.specs.Table.{metresOf}
 use Rattle.dayfile.specs.declared.Day.{Day}
 use Rattle.dayfile.specs.Day.{dayStarts, dayRequests}
@@ -12,7 +13,8 @@ use Rattle.workfunction.specs.Lists.{sumBelow}
 use Rattle.workfunction.specs.Movement.{LeastTo, LeastOfAll, floor}
 use Rattle.workfunction.specs.Serving.{Served, served, standsAfter}
 use Rattle.report.specs.Text.{dayText}
-use Rattle.report.specs.Report.{printOf}
+use Rattle.sheet.specs.Sheet.{readSheet}
+use Rattle.report.specs.Report.{printOf, sheetPrintOf}
 
 module _ (file : List ℕ) where
   -- the day that the file holds, and "d(u,w) the metres from u to w"
@@ -49,3 +51,11 @@ module _ (file : List ℕ) where
     pub least : (i : ℕ) → i < day .calls → LeastTo d (day .places) starts (take (suc i) calls) (standsThen (suc i)) (told i .least)
     -- the floor is the least cost of all movements that serve the calls, wherever they end
     pub floored : LeastOfAll d (day .places) starts calls lowest
+
+  -- the same figures on the sheet
+  pub record SheetProved : Type 0 where
+    -- a row of 28 bytes for each call
+    pub long : length (sheetPrintOf file) ≡ 28 * day .calls
+    -- what is read of it is the number of each call, its place, and the figures told above
+    pub rows : readSheet (sheetPrintOf file)
+        ≡ upTo (day .calls) (λ i. record { call = i; place = getD calls i 0; crane = told i .crane; metres = told i .metres; least = told i .least })

@@ -1,5 +1,5 @@
-// The print of a file and of the day that it holds, into the front of a buffer. Each function returns the index behind what it
-// wrote.
+// The print and the sheet of a file and of the day that it holds, into the front of a buffer. Each function returns the index behind
+// what it wrote.
 use crate::text;
 use base::Verdict;
 use dayfile::Day;
@@ -9,12 +9,18 @@ ghost use Prim.Native.Nat.{_≤_};
 ghost use lib.ListN.{length};
 ghost use Rattle.dispatch.specs.Serving.{servedDay};
 ghost use Rattle.report.specs.Put.{Put};
-ghost use Rattle.report.specs.Report.{figuresText, printOf};
+ghost use Rattle.report.specs.Report.{figuresText, sheetText, dayIn, fileText};
 
-// The print of a file: the line of its refusal, or the print of its day.
-pub(crate) fn put_print(file: &[u8], out: &mut [u8]) -> usize
+// What is told of a day: a line for each call and the last line, or its sheet.
+pub(crate) enum Form {
+    Lines,
+    Rows,
+}
+
+// The text of a file: the line of its refusal, or what is told of its day.
+pub(crate) fn put_file(form: Form, file: &[u8], out: &mut [u8]) -> usize
     requires { ⌜ 32768 ≤ length (now out) ⌝ }
-    ensures { λ r. ⌜ Put (printOf (now (file .entry))) (now (out .entry)) 0 (now (out .exit)) r ⌝ }
+    ensures { λ r. ⌜ Put (fileText (dayIn form) (now (file .entry))) (now (out .entry)) 0 (now (out .exit)) r ⌝ }
 {
     let reading = Day::read(file);
     let verdict = reading.verdict;
@@ -23,11 +29,14 @@ pub(crate) fn put_print(file: &[u8], out: &mut [u8]) -> usize
         return text::put_refused(base::number(verdict) as u64, index as u64, out);
     };
     let day = reading.day;
-    put_day(day, Day::read_table(file), out)
+    let Form::Rows = form else {
+        return put_lines(day, Day::read_table(file), out);
+    };
+    put_rows(day, Day::read_table(file), out)
 }
 
-// The print of a day: the line of its refusal, or the lines of its calls and the last line.
-fn put_day(day: Day, table: Table, out: &mut [u8]) -> usize
+// The line of a day's refusal, or the lines of its calls and the last line.
+fn put_lines(day: Day, table: Table, out: &mut [u8]) -> usize
     requires { ⌜ 32768 ≤ length (now out) ⌝ }
     ensures { λ r. ⌜ Put (figuresText (servedDay day table)) (now (out .entry)) 0 (now (out .exit)) r ⌝ }
 {
@@ -42,4 +51,17 @@ fn put_day(day: Day, table: Table, out: &mut [u8]) -> usize
     let calls = served.calls;
     let next = text::put_calls(calls, &cranes[..], &metres[..], &leasts[..], out);
     text::put_last(served.driven, served.floor, out, next)
+}
+
+// The line of a day's refusal, or its sheet.
+fn put_rows(day: Day, table: Table, out: &mut [u8]) -> usize
+    requires { ⌜ 32768 ≤ length (now out) ⌝ }
+    ensures { λ r. ⌜ Put (sheetText day table) (now (out .entry)) 0 (now (out .exit)) r ⌝ }
+{
+    let written = sheet::write(day, table, out);
+    let verdict = written.verdict;
+    let Verdict::Accepted = verdict else {
+        return text::put_refused(base::number(verdict) as u64, 0, out);
+    };
+    written.length
 }

@@ -2,7 +2,8 @@
 // behind what it wrote.
 ghost use Prim.Native.Nat.{_+_, _≤_};
 ghost use lib.ListN.{length, getD};
-ghost use Rattle.report.specs.Text.{decimal, field, callLine, lastLine, refusedLine, callLines};
+ghost use Rattle.base.specs.Decimal.{decimal};
+ghost use Rattle.report.specs.Text.{field, callLine, lastLine, refusedLine, callLines};
 ghost use Rattle.report.specs.Put.{Put, CallsGiven};
 
 fn put(text: &[u8], out: &mut [u8], at: usize) -> usize

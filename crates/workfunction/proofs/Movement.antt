@@ -176,3 +176,20 @@ work-last {d = d} {starts} calls r laws day C =
     let on = last .2 starts C in
     let sum = best .2 in
     (last .0, last .1, omega arith)
+
+-- a movement, with a position that serves one call more as its last
+then-serves : {n k : ℕ} {d : ℕ → ℕ → ℕ} {calls : List ℕ} {r : ℕ} {X : List ℕ} {M : List (List ℕ)} → Metric n d → Serves n k r X
+    → Movement n k calls M → Movement n k (calls ++ (r ∷ [])) (M ++ (X ∷ [])) × ((A : List ℕ) → cost d A (M ++ (X ∷ [])) X ≡ cost d A M X)
+unfolding cost
+then-serves laws x Forall₂·nil = (Forall₂·cons x Forall₂·nil, λ A. let still = distance-self laws (x .0) in omega arith)
+then-serves laws x (Forall₂·cons {b = P} h more) =
+    let rest = then-serves laws x more in
+    (Forall₂·cons h (rest .0), λ A. rw (rest .1 P))
+
+-- so where a crane is at the next call, w with it as the last is no more than before it
+pub work-served : {n : ℕ} {d : ℕ → ℕ → ℕ} {starts calls : List ℕ} {r : ℕ} {X : List ℕ} → Metric n d → Instance n starts calls → r < n
+    → Serves n (length starts) r X → work d n starts (calls ++ (r ∷ [])) X ≤ work d n starts calls X
+work-served {d = d} {starts} {X = X} laws day asked x =
+    let best = work-least d day X .attained in
+    let longer = then-serves laws x (best .1) in
+    rw (← best .2, ← longer .1 starts) (work-least d (instance-then day asked) X .below _ (longer .0))

@@ -1,13 +1,20 @@
 -- Calls served one after another: each by the crane chosen at the stands then, and the least after it is w of the calls so far at
--- the stands after it. Assumes nothing.
-use Prim.Native.Nat.{ℕ, zero, suc, _<_}
-use mathlib.Core.List.{List, [], _∷_, _++_, append-nil, append-assoc}
+-- the stands after it. A call raises the least by the drive to it at the most. Assumes nothing.
+use Prim.Native.Nat.{ℕ, zero, suc, _+_, _*_, _<_, _≤_}
+use mathlib.Core.List.{List, [], _∷_, _++_, append-nil, append-assoc, List·Memᴰ, List·Memᴰ·head, List·Memᴰ·tail}
 use mathlib.Core.Path.{_≡_, refl, _∙_}
 use lib.ListN.{length, getD, take}
-use native.Mathlib.Nat.{not-suc-le-zero, le-of-suc-le-suc}
-use Rattle.workfunction.specs.Movement.{work}
-use Rattle.workfunction.specs.Choice.{moved, choice}
+use native.Mathlib.Nat.{not-suc-le-zero, le-of-suc-le-suc, one-mul, suc-add, suc-mul}
+use native.Mathlib.Omega.{arith}
+use Rattle.base.specs.Metric.{Metric}
+use Rattle.workfunction.specs.Position.{Position}
+use Rattle.workfunction.specs.Movement.{Instance, work}
+use Rattle.workfunction.specs.Choice.{moved, drive, choice}
 use Rattle.workfunction.specs.Serving.{Served, servedBy, served, serve, standsAfter}
+use Rattle.workfunction.proofs.Choice.{choice-below}
+use Rattle.workfunction.proofs.Movement.{work-on, work-served, instance-then}
+use Rattle.workfunction.proofs.Position.{distance-moved, position-set}
+use Rattle.workfunction.proofs.Sums.{entry-in, set-in}
 
 module _ (d : ℕ → ℕ → ℕ) (n : ℕ) (starts : List ℕ) (none : Served) where
   pub serve-at : (calls stands rs : List ℕ) (i : ℕ) → i < length rs
@@ -29,3 +36,53 @@ module _ (d : ℕ → ℕ → ℕ) (n : ℕ) (starts : List ℕ) (none : Served)
   serve-least calls stands (r ∷ rs) (suc i) h =
       serve-least (calls ++ (r ∷ [])) (moved stands r (choice d n starts calls stands r)) rs i (le-of-suc-le-suc h)
       ∙ rw (append-assoc calls (r ∷ []) (take (suc i) rs))
+
+-- ---- how large the figures become
+
+-- the figures of a call: one of k cranes, a drive no longer than the longest, and a least of no more than most
+pub record Bounded (k longest most : ℕ) (s : Served) : Type 0 where
+  pub crane : s .crane < k
+  pub metres : s .metres ≤ longest
+  pub least : s .least ≤ most
+
+module _ {n : ℕ} {d : ℕ → ℕ → ℕ} (laws : Metric n d) {starts : List ℕ} where
+  -- one call more raises the least by the drive of the crane sent at the most, whichever it is
+  pub work-then : {calls stands : List ℕ} {r : ℕ} → Instance n starts calls → Position n (length starts) stands → r < n → (s : ℕ)
+      → s < length stands → work d n starts (calls ++ (r ∷ [])) (moved stands r s) ≤ work d n starts calls stands + drive d stands r s
+  unfolding drive
+  work-then {stands = stands} {r} day standing asked s lt =
+      let there : Position n (length starts) (moved stands r s) = position-set stands s r asked standing in
+      let served = work-served laws day asked (there, set-in stands s r lt) in
+      let on = work-on d day laws standing there in
+      let way = distance-moved laws stands s r standing lt asked in
+      omega arith
+
+  module _ {longest : ℕ} (short : (u v : ℕ) → u < n → v < n → d u v ≤ longest) where
+    -- the call after calls whose least is w
+    served-bounded : {calls stands : List ℕ} {r : ℕ} → Instance n starts calls → Position n (length starts) stands → r < n
+        → Bounded (length starts) longest (work d n starts calls stands + longest) (served d n starts calls stands r)
+    unfolding servedBy drive
+    served-bounded {calls} {stands} {r} day standing asked =
+        let s = choice d n starts calls stands r in
+        let lt = choice-below laws day standing asked in
+        let drives : drive d stands r s ≤ longest = short _ r (standing .placed (entry-in stands s lt)) asked in
+        let more = work-then day standing asked s lt in
+        record { crane = rw (← standing .cranes) lt; metres = drives; least = omega arith }
+
+    pub serve-bounded : (none : Served) (calls stands rs : List ℕ) → Instance n starts calls → Position n (length starts) stands
+        → ((r : ℕ) → List·Memᴰ r rs → r < n) → (i : ℕ) → i < length rs
+        → Bounded (length starts) longest (work d n starts calls stands + (i + 1) * longest) (getD (serve d n starts calls stands rs) i none)
+    unfolding servedBy serve
+    serve-bounded none calls stands [] day standing asked i h = absurd (not-suc-le-zero h)
+    serve-bounded none calls stands (r ∷ rs) day standing asked zero h =
+        let one : (0 + 1) * longest ≡ longest = one-mul longest in
+        rw one (served-bounded day standing (asked r (List·Memᴰ·head refl)))
+    serve-bounded none calls stands (r ∷ rs) day standing asked (suc i) h =
+        let here : r < n = asked r (List·Memᴰ·head refl) in
+        let first = served-bounded day standing here in
+        let s = choice d n starts calls stands r in
+        let rest = serve-bounded none (calls ++ (r ∷ [])) (moved stands r s) rs (instance-then day here) (position-set stands s r here standing)
+        (λ q m. asked q (List·Memᴰ·tail m)) i (le-of-suc-le-suc h)
+        in
+        let sum : (suc i + 1) * longest ≡ (i + 1) * longest + longest = rw (suc-add i 1) (suc-mul (i + 1) longest) in
+        record { crane = rest .crane; metres = rest .metres; least = omega (arith, first .least, rest .least) }

@@ -1,15 +1,16 @@
 -- The laws of a record's 12 bytes, read and written, and of the bytes of several records.
 -- Assumes nothing.
-use Prim.Native.Nat.{ℕ, suc, _+_, _*_, _/_, _<_, _≤_, zero-le}
-use mathlib.Core.List.{List, [], _∷_, _++_, append-assoc, append-nil}
-use mathlib.Core.Path.{_≡_, refl, sym, ap, subst, _∙_}
+use Prim.Native.Nat.{ℕ, suc, _+_, _*_, _/_, _<_, _≤_}
+use mathlib.Core.List.{List, [], _∷_, _++_, flatMap, append-assoc}
+use mathlib.Core.Path.{_≡_, refl, ap, _∙_}
 use lib.ListN.{length, getD, set, take, drop, length-append}
 use lib.Seq.{getD-drop, sets, sets-eq}
-use native.Mathlib.Nat.{add-zero, add-suc, add-assoc, le-antisymm}
+use native.Mathlib.Nat.{add-zero, add-suc, add-assoc}
 use native.Mathlib.Numerals.{add-one}
 use native.Mathlib.Omega.{arith}
 use Rattle.base.specs.Lists.{upTo, splice}
-use Rattle.base.proofs.Lists.{length-upTo, getD-upTo, upTo-more, splice-none, length-splice, splice-on}
+use Rattle.base.proofs.Blocks.{each-all, flatMap-append, flatMap-one, length-flatMap}
+use Rattle.base.proofs.Lists.{length-upTo, getD-upTo, upTo-more, splice-on, Spliced, splice-begun, splice-turned}
 use Rattle.dayfile.specs.declared.codec.Record.{Record}
 use Rattle.dayfile.specs.Codec.{bytesOf, two, four, decode, encode, records, encodeAll}
 use Rattle.dayfile.specs.Legs.{none}
@@ -78,53 +79,36 @@ length-encode : (r : Record) → length (encode r) ≡ 12
 unfolding encode
 length-encode r = refl
 
-pub encodeAll-append : (rs qs : List Record) → encodeAll (rs ++ qs) ≡ encodeAll rs ++ encodeAll qs
-unfolding encodeAll
-encodeAll-append [] qs = refl
-encodeAll-append (r ∷ rs) qs = rw (encodeAll-append rs qs) (sym (append-assoc (encode r) (encodeAll rs) (encodeAll qs)))
-
 encodeAll-one : (r : Record) → encodeAll (r ∷ []) ≡ encode r
-unfolding encodeAll
-encodeAll-one r = append-nil (encode r)
+encodeAll-one r = flatMap-one encode r
 
 pub length-encodeAll : (rs : List Record) → length (encodeAll rs) ≡ 12 * length rs
-unfolding encodeAll
-length-encodeAll [] = refl
-length-encodeAll (r ∷ rs) = simp (length-append, length-encode, length-encodeAll rs) (omega arith)
+length-encodeAll rs = length-flatMap encode 12 rs (each-all (λ r. length-encode r) rs)
 
-module _ (from : ℕ) (rs : List Record) (old : List ℕ) where
-  -- a buffer with records written into it is as long as it was
-  length-put : 12 * (from + length rs) ≤ length old → length (splice (12 * from) (encodeAll rs) old) ≡ length old
-  length-put h = length-splice (12 * from) (encodeAll rs) old (rw length-encodeAll (omega arith))
-
-  -- records written behind others are all of them written
-  pub put-on : (qs : List Record) → 12 * (from + length (rs ++ qs)) ≤ length old
-      → splice (12 * (from + length rs)) (encodeAll qs) (splice (12 * from) (encodeAll rs) old) ≡ splice (12 * from) (encodeAll (rs ++ qs)) old
-  put-on qs h =
-      let e : 12 * (from + length rs) ≡ 12 * from + length (encodeAll rs) = rw length-encodeAll (omega arith) in
-      rw (encodeAll-append rs qs, e)
-      (splice-on (12 * from) (encodeAll rs) (encodeAll qs) old (rw (length-encodeAll rs, length-encodeAll qs) (omega (arith, length-append rs qs))))
+-- records written behind others are all of them written
+pub put-on : (from : ℕ) (rs : List Record) (old : List ℕ) (qs : List Record) → 12 * (from + length (rs ++ qs)) ≤ length old
+    → splice (12 * (from + length rs)) (encodeAll qs) (splice (12 * from) (encodeAll rs) old) ≡ splice (12 * from) (encodeAll (rs ++ qs)) old
+put-on from rs old qs h =
+    let e : 12 * (from + length rs) ≡ 12 * from + length (encodeAll rs) = rw length-encodeAll (omega arith) in
+    rw (flatMap-append encode rs qs, e)
+    (splice-on (12 * from) (encodeAll rs) (encodeAll qs) old (rw (length-encodeAll rs, length-encodeAll qs) (omega (arith, length-append rs qs))))
 
 -- the invariant of a loop that writes records one behind another, from the record of index from: after i turns of n those of first i
-pub record Put (first : ℕ → List Record) (from : ℕ) (old : List ℕ) (n : ℕ) (now : List ℕ) (i : ℕ) : Type 0 where
-  pub most : i ≤ n
-  pub long : length now ≡ length old
-  pub same : now ≡ splice (12 * from) (encodeAll (first i)) old
+abbrev pub Put : (ℕ → List Record) → ℕ → List ℕ → ℕ → List ℕ → ℕ → Type 0
+Put first from = Spliced (λ i. encodeAll (first i)) (12 * from)
 
 module _ (first : ℕ → List Record) (from : ℕ) (old : List ℕ) (n : ℕ) where
   pub put-begun : first 0 ≡ [] → 12 * from ≤ length old → Put first from old n old 0
-  unfolding encodeAll
-  put-begun e h = record { most = zero-le; long = refl; same = rw e (splice-none (12 * from) old h) }
+  unfolding flatMap
+  put-begun e h = splice-begun (λ i. encodeAll (first i)) (12 * from) old n (ap encodeAll e) h
 
   -- a turn writes the records qs
   pub put-turned : (now new : List ℕ) (i : ℕ) (qs : List Record) → first (i + 1) ≡ first i ++ qs → 12 * (from + length (first (i + 1))) ≤ length old
       → Put first from old n now i → i < n → new ≡ splice (12 * (from + length (first i))) (encodeAll qs) now → Put first from old n new (i + 1)
   put-turned now new i qs more fits p lt e =
-      let q : new ≡ splice (12 * from) (encodeAll (first (i + 1))) old = e ∙ rw (p .same, more) (put-on from (first i) old qs (rw more at fits)) in
-      record { most = omega arith; long = ap length q ∙ length-put from (first (i + 1)) old fits; same = q }
-
-  pub put-ended : (now : List ℕ) (i : ℕ) → Put first from old n now i → n ≤ i → now ≡ splice (12 * from) (encodeAll (first n)) old
-  put-ended now i p le = subst (λ (k : ℕ). now ≡ splice (12 * from) (encodeAll (first k)) old) (le-antisymm (p .most) le) (p .same)
+      let at : 12 * (from + length (first i)) ≡ 12 * from + length (encodeAll (first i)) = rw length-encodeAll (omega arith) in
+      splice-turned (λ i. encodeAll (first i)) (12 * from) old n now new (encodeAll qs) i (ap encodeAll more ∙ flatMap-append encode (first i) qs)
+      (rw length-encodeAll (omega arith)) p lt (rw at at e)
 
 -- a loop that writes one record a turn, that of its index
 module _ (next : ℕ → Record) (from : ℕ) (old : List ℕ) (n : ℕ) (fits : 12 * (from + n) ≤ length old) where

@@ -1,22 +1,22 @@
 -- The laws of the print: the digits of a number, and text written behind text.
 -- Assumes nothing.
 use Prim.Native.Nat.{ℕ, zero, suc, _+_, _-_, _*_, _/_, _%_, _^_, _<_, _≤_, zero-le, suc-le-suc}
-use mathlib.Core.Bool.{Bool, true, false, cond}
 use mathlib.Core.List.{List, [], _∷_, _++_, append-assoc}
 use mathlib.Core.Path.{_≡_, refl, ap, subst, _∙_}
 use borrow.Author.Tests.{lt-ltb, le-ltb}
-use lib.Dec.{ltb}
 use lib.ListN.{length, take, drop, length-append, length-drop, take-append-drop}
 use lib.Seq.{length-take-le, take-length, drop-append-le, drop-drop}
 use native.Mathlib.Nat.{not-suc-le-zero, zero-lt-suc, le-of-suc-le-suc, lt-of-not-le, mod-lt, mod-eq-of-lt}
 use native.Mathlib.Nat.{one-le-pow, pow-suc, pow-le-pow-right}
 use native.Mathlib.Numerals.{add-one}
 use native.Mathlib.Omega.{arith}
+use Rattle.base.specs.Decimal.{upToDigits, decimal}
 use Rattle.base.specs.Lists.{splice}
+use Rattle.base.proofs.Decimal.{length-decimal}
 use Rattle.base.proofs.Lists.{splice-none, splice-on}
 use Rattle.io.specs.Digits.{digits, Fewest}
 use Rattle.dayfile.specs.Day.{mostCalls}
-use Rattle.report.specs.Text.{upToDigits, decimal, callLine, lastLine, refusedLine, callLines, dayText}
+use Rattle.report.specs.Text.{callLine, lastLine, refusedLine, callLines, dayText}
 use Rattle.report.specs.Put.{Put}
 
 -- ---- digits
@@ -49,22 +49,6 @@ digits-decimal n zero h few = absurd (not-suc-le-zero (few .0))
 digits-decimal n (suc j) h few =
     let same : suc j - 1 ≡ j = omega arith in
     spelled 20 j n (few-digits n (suc j) h few) (few .1) (λ p. subst (λ (i : ℕ). 10 ^ i ≤ n) same (few .2 (suc-le-suc p)))
-
-length-cond : (b : Bool) (x y : List ℕ) (m : ℕ) → length x ≤ m → length y ≤ m → length (cond b x y) ≤ m
-length-cond true x y m p q = p
-length-cond false x y m p q = q
-
-length-upToDigits : (k n : ℕ) → length (upToDigits k n) ≤ k
-unfolding upToDigits
-length-upToDigits zero n = zero-le
-length-upToDigits (suc k) n =
-    let last : List ℕ = (48 + n % 10) ∷ [] in
-    let most : length (upToDigits k (n / 10) ++ last) ≤ suc k = rw length-append (omega (arith, length-upToDigits k (n / 10))) in
-    length-cond (ltb n 10) ((48 + n) ∷ []) (upToDigits k (n / 10) ++ last) (suc k) (suc-le-suc zero-le) most
-
-pub length-decimal : (n : ℕ) → length (decimal n) ≤ 20
-unfolding decimal
-length-decimal n = length-upToDigits 20 n
 
 -- ---- text behind text
 

@@ -1,10 +1,8 @@
 -- `brute::edges::tell` is safe: no more is read than was written.
 -- Assumes nothing.
+use mathlib.Core.Path.{sym}
 use borrow.Author.Needs.{needs}
-use lib.ListN.{length}
 use lib.Seq.{length-take-le}
-use mathlib.Core.Path.{_≡_, sym}
-use native.Mathlib.Omega.{arith}
 use Rattle.brute.proofs.edges.tell.Statement.{statement}
 use Rattle.brute.proofs.edges.tell.Tie as tie
 
@@ -26,20 +24,17 @@ slice-aggregate-print c = sym (length-take-le _ _ (array-share-prefix-file (c .b
 print-requires : tie.Need-print-requires
 print-requires c κs = search needs
 
-returns-2 : tie.Need-returns-2
-returns-2 c = search needs
-
 array-share-prefix-text : tie.Need-array-share-prefix-text
-array-share-prefix-text c = let long : length (c .before .before .print .result .text) ≡ 32768 = search needs in omega arith
+array-share-prefix-text c = search needs
 
 slice-aggregate-write-all : tie.Need-slice-aggregate-write-all
-slice-aggregate-write-all c = sym (length-take-le _ _ (array-share-prefix-text (c .before)))
+slice-aggregate-write-all c = search needs
 
 write-all-requires : tie.Need-write-all-requires
 write-all-requires c κs = search needs
 
-returns-3 : tie.Need-returns-3
-returns-3 c = search needs
+returns-2 : tie.Need-returns-2
+returns-2 c = search needs
 
 pub tell-spec : {M : Type 1} → statement M
 tell-spec =
@@ -51,8 +46,7 @@ tell-spec =
     array-share-prefix-file
     slice-aggregate-print
     print-requires
-    returns-2
     array-share-prefix-text
     slice-aggregate-write-all
     write-all-requires
-    returns-3)
+    returns-2)

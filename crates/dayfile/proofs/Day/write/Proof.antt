@@ -1,15 +1,17 @@
 -- `dayfile::Day::write` meets its contract: a refusal leaves the buffer as it is, else the day's bytes are at its front.
 -- Assumes nothing.
-use Prim.Native.Nat.{_≤_}
+use Prim.Native.Nat.{_+_, _*_, _≤_}
 use mathlib.Core.Path.{_≡_}
 use borrow.Author.Needs.{needs}
 use lib.ListN.{length}
 use native.Mathlib.Omega.{arith}
 use Rattle.base.proofs.Numbers.{accepts, refused-number}
-use Rattle.dayfile.specs.Day.{dayStarts, dayRequests, DayArrays, dayRefusal}
+use Rattle.road.specs.Table.{metresOf}
+use Rattle.dayfile.specs.Day.{DayArrays, dayRefusal}
+use Rattle.dayfile.specs.File.{dayBytes}
 use Rattle.dayfile.specs.Legs.{legCount}
 use Rattle.dayfile.proofs.Limits.{CountsTested, length-starts, length-requests, day-tested}
-use Rattle.dayfile.proofs.Outputs.{day-refused, too-short, day-written}
+use Rattle.dayfile.proofs.Outputs.{output-refused, output-short, output-written, length-day}
 use Rattle.dayfile.proofs.legs.Laws.{leg-count-most}
 use Rattle.dayfile.proofs.Day.write.Statement.{statement}
 use Rattle.dayfile.proofs.Day.write.Tie as tie
@@ -27,11 +29,9 @@ legs c = leg-count-most _ (counts c .places)
 arrays : (c : tie.After-enum-told) → DayArrays (c .before .before .before .before .args .self)
 arrays c = record { starts = search needs; requests = search needs }
 
-cranes : (c : tie.After-enum-told) → let a = c .before .before .before .before .args .self in length (dayStarts a) ≡ a .cranes
-cranes c = length-starts _ (arrays c) (counts c .cranes)
-
-calls : (c : tie.After-enum-told) → let a = c .before .before .before .before .args .self in length (dayRequests a) ≡ a .calls
-calls c = length-requests _ (arrays c) (counts c .calls)
+long : (c : tie.After-enum-told) → let a = c .before .before .before .before .args in
+    length (dayBytes (a .self) (metresOf (a .t2))) ≡ 12 * (legCount (a .self .places) + a .self .cranes + a .self .calls)
+long c = let a = c .before .before .before .before .args in length-day (a .self) (a .t2) (length-starts _ (arrays c) (counts c .cranes)) (length-requests _ (arrays c) (counts c .calls))
 
 test-requires : tie.Need-test-requires
 test-requires c κs = search needs
@@ -45,7 +45,7 @@ enum-told-2 c = search needs
 returns : tie.Need-returns
 returns c =
     let e = c .enum-told2 .given in
-    day-refused _ _ _ _ (c .before .before .test .ensures) (refused-number _ (e .0 .0) (e .1))
+    output-refused _ _ _ _ (c .before .before .test .ensures) (refused-number _ (e .0 .0) (e .1))
 
 count-requires : tie.Need-count-requires
 count-requires c κs = counts c .places
@@ -63,7 +63,7 @@ returns-2 : tie.Need-returns-2
 returns-2 c =
     let n = c .before .before .before in
     let k = n .before in
-    too-short _ _ (cranes k) (calls k) _ (tested k) (rw (n .count .ensures) at (c .if1 .taken))
+    output-short _ _ _ (tested k) (long k) (rw (n .count .ensures) at (c .if1 .taken))
 
 put-requires : tie.Need-put-requires
 put-requires c κs =
@@ -79,7 +79,7 @@ returns-3 c =
     let t = c .before .before .before .before .before in
     let n = t .before .before .before in
     let k = n .before in
-    day-written _ _ (cranes k) (calls k) _ (tested k) _ _ (rw (n .count .ensures)) (t .if1 .left) (c .before .before .put .ensures)
+    output-written _ _ _ (tested k) (rw (n .count .ensures) (long k)) _ (t .if1 .left) (c .before .before .put .ensures)
 
 pub write-spec : {M : Type 1} → statement M
 write-spec =

@@ -1,6 +1,6 @@
 -- `dayfile::legs::put` meets its contract: the legs to each place are written behind those to the earlier ones.
 -- Assumes nothing.
-use Prim.Native.Nat.{ℕ, _+_, _-_, _*_, _<_, _≤_}
+use Prim.Native.Nat.{ℕ, _+_, _-_, _*_, _<_, _≤_, zero-le}
 use mathlib.Core.List.{List}
 use mathlib.Core.Path.{_≡_, refl}
 use borrow.Author.Needs.{needs}
@@ -8,10 +8,11 @@ use lib.ListN.{length}
 use native.Mathlib.Nat.{zero-add}
 use native.Mathlib.Omega.{arith}
 use Rattle.base.specs.Lists.{upTo, splice}
+use Rattle.base.proofs.Lists.{splice-ended}
 use Rattle.road.specs.Table.{metresOf}
 use Rattle.dayfile.specs.Codec.{encodeAll}
 use Rattle.dayfile.specs.Legs.{legCount, leg, legRecords}
-use Rattle.dayfile.proofs.codec.Laws.{Put, put-begun, put-turned, put-ended}
+use Rattle.dayfile.proofs.codec.Laws.{Put, put-begun, put-turned}
 use Rattle.dayfile.proofs.legs.Laws.{legs-before, leg-count-more, legRecords-more, length-legRecords}
 use Rattle.dayfile.proofs.legs.put.Statement.{statement}
 use Rattle.dayfile.proofs.legs.put.Tie as tie
@@ -31,7 +32,7 @@ abbrev μ-loop : tie.MeasureT-loop
 
 loop-holds : tie.Need-loop-holds Inv-loop μ-loop
 unfolding legRecords
-loop-holds c = put-begun _ _ _ _ refl (omega arith)
+loop-holds c = put-begun (legRecords _) 0 _ _ refl zero-le
 
 put-to-requires : tie.Need-put-to-requires Inv-loop μ-loop
 put-to-requires c κs =
@@ -53,7 +54,7 @@ same-length : tie.Need-same-length Inv-loop μ-loop
 same-length c = search needs
 
 returns : tie.Need-returns Inv-loop μ-loop
-returns c = put-ended _ _ _ _ _ _ (c .before .loop .inv) (c .loop-test .left)
+returns c = splice-ended _ _ _ _ _ _ (c .before .loop .inv) (c .loop-test .left)
 
 pub put-spec : {M : Type 1} → statement M
 put-spec =

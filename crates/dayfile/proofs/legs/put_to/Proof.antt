@@ -5,10 +5,11 @@ use mathlib.Core.Path.{ap, _∙_}
 use borrow.Author.Needs.{needs}
 use native.Mathlib.Omega.{arith}
 use Rattle.base.specs.Lists.{upTo}
+use Rattle.base.proofs.Lists.{splice-ended}
 use Rattle.road.specs.Table.{metresOf}
 use Rattle.road.proofs.Table.{entry-in}
 use Rattle.dayfile.specs.Legs.{leg}
-use Rattle.dayfile.proofs.codec.Laws.{Put, put-ended, put-one-begun, put-one-turned}
+use Rattle.dayfile.proofs.codec.Laws.{Put, put-one-begun, put-one-turned}
 use Rattle.dayfile.proofs.legs.put_to.Statement.{statement}
 use Rattle.dayfile.proofs.legs.put_to.Tie as tie
 
@@ -59,7 +60,7 @@ same-length : tie.Need-same-length Inv-loop μ-loop
 same-length c = search needs
 
 returns : tie.Need-returns Inv-loop μ-loop
-returns c = rw (← c .before .before .count .ensures) (put-ended _ _ _ _ _ _ (c .before .loop .inv) (c .loop-test .left))
+returns c = rw (← c .before .before .count .ensures) (splice-ended _ _ _ _ _ _ (c .before .loop .inv) (c .loop-test .left))
 
 pub put-to-spec : {M : Type 1} → statement M
 put-to-spec =

@@ -6,9 +6,9 @@ use borrow.Author.Needs.{needs}
 use lib.ListN.{length, getD}
 use native.Mathlib.Omega.{arith}
 use Rattle.base.specs.Lists.{upTo}
-use Rattle.base.proofs.Lists.{map-by-index}
+use Rattle.base.proofs.Lists.{map-by-index, splice-ended}
 use Rattle.dayfile.specs.Day.{stop}
-use Rattle.dayfile.proofs.codec.Laws.{Put, put-ended, put-one-begun, put-one-turned}
+use Rattle.dayfile.proofs.codec.Laws.{Put, put-one-begun, put-one-turned}
 use Rattle.dayfile.proofs.stops.put.Statement.{statement}
 use Rattle.dayfile.proofs.stops.put.Tie as tie
 
@@ -51,7 +51,7 @@ same-length : tie.Need-same-length Inv-loop μ-loop
 same-length c = search needs
 
 returns : tie.Need-returns Inv-loop μ-loop
-returns c = put-ended _ _ _ _ _ _ (c .before .loop .inv) (omega arith) ∙ rw (map-by-index (stop _) _ 0)
+returns c = splice-ended _ _ _ _ _ _ (c .before .loop .inv) (omega arith) ∙ rw (map-by-index (stop _) _ 0)
 
 pub put-spec : {M : Type 1} → statement M
 put-spec =

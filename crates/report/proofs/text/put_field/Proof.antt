@@ -2,7 +2,8 @@
 -- Assumes nothing.
 use borrow.Author.Needs.{needs}
 use native.Mathlib.Omega.{arith}
-use Rattle.report.proofs.text.Laws.{length-decimal, put-on}
+use Rattle.base.proofs.Decimal.{length-decimal}
+use Rattle.report.proofs.text.Laws.{put-on}
 use Rattle.report.proofs.text.put_field.Statement.{statement}
 use Rattle.report.proofs.text.put_field.Tie as tie
 

@@ -4,8 +4,10 @@ use Prim.Native.Nat.{_≤_}
 use borrow.Author.Needs.{needs}
 use lib.ListN.{length}
 use native.Mathlib.Omega.{arith}
-use Rattle.report.specs.Text.{decimal, refusedLine}
-use Rattle.report.proofs.text.Laws.{length-decimal, put-on}
+use Rattle.base.specs.Decimal.{decimal}
+use Rattle.base.proofs.Decimal.{length-decimal}
+use Rattle.report.specs.Text.{refusedLine}
+use Rattle.report.proofs.text.Laws.{put-on}
 use Rattle.report.proofs.text.put_refused.Statement.{statement}
 use Rattle.report.proofs.text.put_refused.Tie as tie
 
