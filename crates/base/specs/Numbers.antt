@@ -1,13 +1,13 @@
--- Document 01's number for each refusal and each verdict, and tests in their order.
+-- The number for each refusal and each verdict, and tests in their order.
 use Prim.Native.Nat.{ℕ, zero, suc}
 use mathlib.Core.Bool.{Bool, cond}
 use Rattle.base.specs.declared.Refusal.{Refusal}
-use Rattle.base.specs.declared.Refusal.the-variants.{Length, Record, Order, Metres, Place, Cranes, Calls, Triangle, Plan, Weights, Buffer}
+use Rattle.base.specs.declared.Refusal.the-variants.{Length, Record, Order, Metres, Place, Cranes, Calls, Triangle, Plan, Weights, Buffer, Crane}
 use Rattle.base.specs.declared.Verdict.{Verdict}
 use Rattle.base.specs.declared.Verdict.the-variants.{Accepted, Refused}
 
 infixr 20 _then_
--- the column "Returned" of the refusal table
+-- the column "Returned" of the refusal table; 12 is paper 3's
 abbrev pub refusalNumber : Refusal → ℕ
 refusalNumber Length = 1
 refusalNumber Record = 2
@@ -20,6 +20,7 @@ refusalNumber Triangle = 8
 refusalNumber Plan = 9
 refusalNumber Weights = 10
 refusalNumber Buffer = 11
+refusalNumber Crane = 12
 
 -- 0 where no refusal applies
 abbrev pub numberOf : Verdict → ℕ

@@ -1,9 +1,9 @@
 // What every layer shares: the refusals with their numbers and the answer of a test; in specs/, tests over all numbers
 // below a bound, lists that are filled or written into others, and the laws of a metric. Stands on nothing.
 ghost use mathlib.Core.Path.{_≡_};
-ghost use Rattle.base.specs.Numbers.{numberOf};
+ghost use Rattle.base.specs.Numbers.{numberOf, _then_};
 
-// One case for each row of document 01's refusal table, 1 to 11.
+// One case for each row of document 01's refusal table, 1 to 11, and for 12 of paper 3.
 pub enum Refusal {
     // The length of a file.
     Length,
@@ -27,6 +27,8 @@ pub enum Refusal {
     Weights,
     // An output buffer shorter than the result.
     Buffer,
+    // A crane to be sent whose number is not below the number of cranes.
+    Crane,
 }
 
 // The answer of a test: accepted, or the first refusal that applies.
@@ -35,7 +37,19 @@ pub enum Verdict {
     Refused(Refusal),
 }
 
-// Document 01's number of a verdict, 0 where it accepts.
+impl Verdict {
+    // Two tests in order: the refusal of this one, else what the next says.
+    pub fn then(self, next: Verdict) -> Verdict
+        ensures { λ r. ⌜ numberOf r ≡ (numberOf self then numberOf next) ⌝ }
+    {
+        let Verdict::Accepted = self else {
+            return self;
+        };
+        next
+    }
+}
+
+// The number of a verdict, 0 where it accepts.
 pub fn number(v: Verdict) -> u8
     ensures { λ r. ⌜ r ≡ numberOf v ⌝ }
 {
@@ -54,5 +68,6 @@ pub fn number(v: Verdict) -> u8
         Refusal::Plan => 9,
         Refusal::Weights => 10,
         Refusal::Buffer => 11,
+        Refusal::Crane => 12,
     }
 }

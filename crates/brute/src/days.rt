@@ -1,27 +1,55 @@
-// Every small day up to a size, and days drawn at random, each served by the library and by the brute search.
+// Every small day up to a size, and days drawn at random, each by the library and by the brute search, with the quoted cranes and with others.
 use crate::search;
 use crate::sheets;
 use crate::small;
+use crate::tally::Group;
+use crate::tally::Others;
 use crate::tally::Tally;
 use dayfile::Day;
 use road::Table;
 ghost use Prim.Native.Nat.{_<_};
 
-// Whether every figure of a small day and its sheet agree. Its table need not keep the triangle rule: then the day must be refused by 8,
-// served and as a sheet.
-fn agrees(day: Day, table: &Table) -> bool {
+// The small day of a number too. Its table need not keep the triangle rule: then the day must be refused by 8, served and as a sheet.
+fn add(before: Group, day: Day, table: &Table, number: usize) -> Group {
     if small::metric(table, day.places) {
         let sides = search::day(day, table);
-        return sides.agree;
+        let other = search::day_by_others(day, table, number);
+        return before.add(sides.agree, other.agree, other.others);
     }
     let served = search::served(day, table);
     let verdict = served.verdict;
-    (base::number(verdict) == 8) & sheets::refused(sheets::write(day, table), 8)
+    let refused = (base::number(verdict) == 8) & sheets::refused(sheets::write(day, table), 8);
+    let quoted = before.quoted;
+    let others = before.others;
+    Group {
+        quoted: quoted.add(refused),
+        others,
+    }
 }
 
-// All days of a size, which are so many: with legs of metres below a bound, and with so many tables and lists of starts.
+// The day of a number of a size too: with legs of metres below a bound, and with so many tables and lists of starts.
+fn add_counted(
+    before: Group,
+    places: usize,
+    cranes: usize,
+    calls: usize,
+    bound: u64,
+    tables: usize,
+    starts: usize,
+    number: usize,
+) -> Group
+    requires { ⌜ (0 < places) × ((0 < bound) × ((0 < tables) × (0 < starts))) ⌝ }
+{
+    let table = small::table(small::counted(number % tables), bound, false);
+    let first = small::counted(number / tables % starts);
+    let asked = small::counted(number / tables / starts);
+    let day = small::day(places, cranes, calls, first, asked, places as u64);
+    add(before, day, &table, number)
+}
+
+// All days of a size, which are so many.
 fn every(
-    before: Tally,
+    before: Group,
     places: usize,
     cranes: usize,
     calls: usize,
@@ -29,23 +57,19 @@ fn every(
     tables: usize,
     starts: usize,
     days: usize,
-) -> Tally
+) -> Group
     requires { ⌜ (0 < places) × ((0 < bound) × ((0 < tables) × (0 < starts))) ⌝ }
 {
-    let mut tally = before;
+    let mut group = before;
     for i in 0..days {
-        let table = small::table(small::counted(i % tables), bound, false);
-        let first = small::counted(i / tables % starts);
-        let asked = small::counted(i / tables / starts);
-        let day = small::day(places, cranes, calls, first, asked, places as u64);
-        tally = tally.add(agrees(day, &table));
+        group = add_counted(group, places, cranes, calls, bound, tables, starts, i);
     }
-    tally
+    group
 }
 
 // Every day of six sizes.
-pub(crate) fn all() -> Tally {
-    let one = every(Tally::none(), 1, 1, 6, 1, 1, 1, 1);
+pub(crate) fn all() -> Group {
+    let one = every(Group::none(), 1, 1, 6, 1, 1, 1, 1);
     let two = every(every(one, 2, 2, 6, 3, 3, 4, 768), 2, 3, 4, 4, 4, 8, 512);
     let three = every(two, 3, 1, 3, 3, 27, 3, 2_187);
     every(
@@ -60,37 +84,55 @@ pub(crate) fn all() -> Tally {
     )
 }
 
-// Random days: those without a call at which two cranes had the same sum, and those with one.
+// Random days by the quoted cranes, those without a call at which two cranes had the same sum and those with one; and by others.
 pub struct Drawn {
     pub plain: Tally,
     pub tied: Tally,
+    pub others: Others,
 }
 
 // One day more.
-fn counted(drawn: Drawn, tied: bool, agree: bool) -> Drawn {
+fn counted(drawn: Drawn, tied: bool, agree: bool, others: Others) -> Drawn {
     let plain = drawn.plain;
     let with = drawn.tied;
     if tied {
         return Drawn {
             plain,
             tied: with.add(agree),
+            others,
         };
     }
     Drawn {
         plain: plain.add(agree),
         tied: with,
+        others,
     }
 }
 
-// So many random days of a size too, with legs of metres below a bound before the shortest ways are taken.
+// The random day of a number of a size too, with legs of metres below a bound before the shortest ways are taken.
+fn add_drawn(before: Drawn, places: usize, cranes: usize, bound: u64, number: usize) -> Drawn
+    requires { ⌜ (0 < places) × (0 < bound) ⌝ }
+{
+    let table = small::drawn_table(number, places, bound, false);
+    let day = small::drawn_day(number, places, cranes, 6);
+    let sides = search::day(day, &table);
+    let other = search::day_by_others(day, &table, number);
+    let others = before.others;
+    counted(
+        before,
+        sides.tied,
+        sides.agree,
+        others.add(other.agree, other.others),
+    )
+}
+
+// So many random days of a size too.
 fn some(before: Drawn, places: usize, cranes: usize, bound: u64, days: usize) -> Drawn
     requires { ⌜ (0 < places) × (0 < bound) ⌝ }
 {
     let mut all = before;
     for i in 0..days {
-        let table = small::drawn_table(i, places, bound, false);
-        let sides = search::day(small::drawn_day(i, places, cranes, 6), &table);
-        all = counted(all, sides.tied, sides.agree);
+        all = add_drawn(all, places, cranes, bound, i);
     }
     all
 }
@@ -100,6 +142,7 @@ pub(crate) fn random() -> Drawn {
     let none = Drawn {
         plain: Tally::none(),
         tied: Tally::none(),
+        others: Others::none(),
     };
     let four = some(
         some(some(none, 5, 4, 6, 120), 5, 4, 1_000, 120),

@@ -1,7 +1,7 @@
 // Days with every figure: document 01's edges and case A, those of paper 1, and days that show where a shorter method goes wrong.
 use crate::search;
 use crate::small;
-use crate::tally::Tally;
+use crate::tally::Group;
 use dayfile::Day;
 use libc::STDOUT_FILENO;
 use road::Table;
@@ -24,16 +24,16 @@ fn tell(day: Day, table: Table) {
 }
 
 // A day of three legs, with so many cranes and calls, their places the digits of a number, the first the last digit. Prints what the
-// program tells of it, and counts whether the brute search finds the same.
+// program tells of it, and counts whether the brute search finds the same, by the quoted cranes and by others.
 fn edge(
-    before: Tally,
+    before: Group,
     table: Table,
     places: usize,
     cranes: usize,
     starts: usize,
     calls: usize,
     asked: usize,
-) -> Tally {
+) -> Group {
     let day = small::day(
         places,
         cranes,
@@ -44,13 +44,15 @@ fn edge(
     );
     tell(day, table);
     let sides = search::day(day, &table);
-    before.add(sides.agree)
+    let quoted = before.quoted;
+    let other = search::day_by_others(day, &table, quoted.tried as usize);
+    before.add(sides.agree, other.agree, other.others)
 }
 
 // All days.
-pub(crate) fn all() -> Tally {
+pub(crate) fn all() -> Group {
     // Case A. At its last call crane 0 is nearer, and the least cost falls.
-    let a = edge(Tally::none(), small::three(10, 20, 15), 3, 2, 20, 3, 101);
+    let a = edge(Group::none(), small::three(10, 20, 15), 3, 2, 20, 3, 101);
     // One place, one crane, one call.
     let one = edge(a, small::three(0, 0, 0), 1, 1, 0, 1, 0);
     // Equal sums and equal drives.

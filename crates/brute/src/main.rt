@@ -1,6 +1,7 @@
-// Serves small days by the compiled library and by a brute search over positions. Prints what the program tells of document 01's days, and
-// for each group how many days were tried and of how many every figure and the sheet agree. Stands on all the libraries here, and on the
-// toolchain's `io` for writing.
+// Serves small days by the compiled library and by a brute search over positions. Prints what the program tells of document 01's days; for
+// each group how many days were tried and of how many every figure and the sheet agree; and for each group by other cranes than the quoted
+// ones how many were tried, of how many every figure agrees, and how many calls had another crane. Stands on all the libraries here, and on
+// the toolchain's `io` for writing.
 mod days;
 mod edges;
 mod past;
@@ -11,12 +12,28 @@ mod sheets;
 mod small;
 mod tally;
 
+use tally::Group;
+
+// A group's two lines.
+fn print(group: Group, quoted: &[u8], others: &[u8]) {
+    let first = group.quoted;
+    first.print(quoted);
+    let second = group.others;
+    second.print(others);
+}
+
 // Document 01's days, and every small day.
 fn figures() {
-    let edges = edges::all();
-    edges.print(b"edges and wrong turns");
-    let every = days::all();
-    every.print(b"every small day");
+    print(
+        edges::all(),
+        b"edges and wrong turns",
+        b"edges by other cranes",
+    );
+    print(
+        days::all(),
+        b"every small day",
+        b"small days by other cranes",
+    );
 }
 
 // Random days.
@@ -26,12 +43,17 @@ fn random() {
     plain.print(b"random days without equal sums");
     let tied = random.tied;
     tied.print(b"random days with equal sums");
+    let others = random.others;
+    others.print(b"random days by other cranes");
 }
 
 // Random days whose book comes back with other weights, and with other entries past the counts.
 fn changed() {
-    let restored = restored::all();
-    restored.print(b"restored books");
+    print(
+        restored::all(),
+        b"restored books",
+        b"restored books by other cranes",
+    );
     let past = past::all();
     past.print(b"entries past the counts");
 }

@@ -152,10 +152,10 @@ fn written_alike(a: Day, b: Day, first: Table, second: Table) -> bool {
 // entries, and the book after it and the file are those of the day without them.
 fn agrees(size: positions::Size, day: Day, table: Table, place: u16) -> bool {
     let wild = spoiled_table(table, size.places);
-    let plain = search::call(&table, size, search::day(day, &table), place);
+    let plain = search::call(&table, size, search::day(day, &table), place, 0);
     let mut sides = search::day(spoiled_day(day), &wild);
     sides.book = spoiled_book(sides.book);
-    let last = search::call(&wild, size, search::agreed(&wild, size, sides), place);
+    let last = search::call(&wild, size, search::agreed(&wild, size, sides), place, 0);
     plain.agree
         & last.agree
         & same(plain.book, last.book)

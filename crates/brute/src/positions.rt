@@ -168,12 +168,13 @@ pub(crate) fn begin(cranes: usize, starts: Position) -> Reached {
     reached
 }
 
-// The work function at an end: the least, over all positions that movements have come to, of the cost so far and the distance.
+// The work function at an end: the least, over all positions that movements have come to, of the cost so far and the distance. A position
+// whose cost so far is no less than the least found is passed over.
 pub(crate) fn work_at(table: &Table, size: Size, reached: &Reached, end: Position) -> u64 {
     let mut least = FAR;
     for code in 0..size.codes {
         let so_far = reached[code % POSITIONS];
-        if so_far < FAR {
+        if so_far < least {
             let more = distance(table, size, position(code), end);
             least = lesser(least, std::num::wrapping_add_u64(so_far, more));
         }
@@ -227,7 +228,7 @@ fn preferred(first: Sent, second: Sent) -> Sent {
 }
 
 // What sending a crane costs, where `reached` has the call as its last.
-fn sending(
+pub(crate) fn sending(
     table: &Table,
     size: Size,
     reached: &Reached,

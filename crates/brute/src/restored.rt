@@ -1,9 +1,12 @@
 // Books that come back with other weights that vouch: stretched together with the legs, and shifted towards the ends of their range.
 use crate::positions;
+use crate::positions::Size;
 use crate::search;
+use crate::search::Sides;
 use crate::small;
-use crate::tally::Tally;
+use crate::tally::Group;
 use book::Book;
+use road::Table;
 ghost use Prim.Native.Nat.{_<_};
 
 // No weight of a small day is more than this, nor less than its opposite.
@@ -38,9 +41,20 @@ fn restored(book: Book, shift: i64) -> Book {
     back
 }
 
-// A random day of five calls and one more: the calls are served; the book comes back over legs twice as long, with its weights
-// doubled and shifted; and the last call is served there.
-fn agrees(number: usize, places: usize, cranes: usize, shift: i64) -> bool
+// One call more over these legs, where the book of the sides comes back with its weights doubled and shifted: by the quoted crane, and by
+// the next one.
+fn add(before: Group, table: &Table, size: Size, sides: Sides, place: u16, shift: i64) -> Group {
+    let mut back = sides;
+    back.book = restored(sides.book, shift);
+    let standing = search::agreed(table, size, back);
+    let last = search::call(table, size, standing, place, 0);
+    let other = search::call(table, size, standing, place, 1);
+    before.add(last.agree, other.agree, other.others)
+}
+
+// A random day of five calls too: they are served over its legs and over legs twice as long; the first book comes back over the long
+// legs, with its weights shifted up, not at all, and down.
+fn add_day(before: Group, number: usize, places: usize, cranes: usize) -> Group
     requires { ⌜ 0 < places ⌝ }
 {
     let place = small::drawn_place(number, places);
@@ -50,27 +64,26 @@ fn agrees(number: usize, places: usize, cranes: usize, shift: i64) -> bool
     let day = small::drawn_day(number, places, cranes, 5);
     let plain = search::day(day, &table);
     let mut sides = search::day(day, &wide);
-    sides.book = restored(plain.book, shift);
-    let standing = search::agreed(&wide, size, sides);
-    let last = search::call(&wide, size, standing, place);
-    plain.agree & last.agree
+    let book = plain.book;
+    sides.book = book;
+    sides.agree = sides.agree & plain.agree;
+    let up = add(before, &wide, size, sides, place, SHIFT);
+    let still = add(up, &wide, size, sides, place, 0);
+    add(still, &wide, size, sides, place, -SHIFT)
 }
 
-// So many days of one size too, each with its weights shifted up, not at all, and down.
-fn some(before: Tally, places: usize, cranes: usize, days: usize) -> Tally
+// So many days of one size too.
+fn some(before: Group, places: usize, cranes: usize, days: usize) -> Group
     requires { ⌜ 0 < places ⌝ }
 {
-    let mut tally = before;
+    let mut group = before;
     for i in 0..days {
-        tally = tally
-            .add(agrees(i, places, cranes, SHIFT))
-            .add(agrees(i, places, cranes, 0))
-            .add(agrees(i, places, cranes, -SHIFT));
+        group = add_day(group, i, places, cranes);
     }
-    tally
+    group
 }
 
 // Days of three sizes.
-pub(crate) fn all() -> Tally {
-    some(some(some(Tally::none(), 5, 4, 40), 4, 2, 60), 3, 3, 60)
+pub(crate) fn all() -> Group {
+    some(some(some(Group::none(), 5, 4, 40), 4, 2, 60), 3, 3, 60)
 }

@@ -1,4 +1,5 @@
-// A day's calls served by the library and by the brute search, side by side.
+// A day's calls by the library and by the brute search, side by side: each is quoted, and a crane is committed to it, the quoted one or
+// another.
 use crate::positions;
 use crate::positions::Position;
 use crate::positions::Reached;
@@ -6,16 +7,21 @@ use crate::positions::Sent;
 use crate::positions::Size;
 use crate::sheets;
 use crate::sheets::Posted;
+use crate::small;
+use crate::small::Source;
 use book::Book;
 use dayfile::Day;
 use dispatch::Dispatch;
+use dispatch::Quote;
 use dispatch::ServedDay;
-use dispatch::Serving;
 use road::Table;
 ghost use Prim.Native.Nat.{_<_};
 
 // The most calls of a small day.
 const CALLS: usize = 6;
+
+// A crane is fewer numbers than this behind the quoted one: whole rounds of 1, 2, 3 and 4 cranes.
+const ROUND: u64 = 12;
 
 // What the brute search keeps of a day: the costs of the positions reached and their floor, the cranes' stands and the sum of the drives.
 pub struct Desk {
@@ -25,21 +31,29 @@ pub struct Desk {
     pub floor: u64,
 }
 
-// Both sides after some calls: the library's book and the search's desk; the crane that the search sent last; whether every figure agreed
-// so far, and whether two cranes had the same sum at some call.
+// Both sides after some calls: the library's book and the search's desk; the crane that the search would send to the last call; whether
+// every figure agreed so far, whether two cranes had the same sum at some call, and how many calls had another crane than the quoted one.
 pub struct Sides {
     pub book: Book,
     pub desk: Desk,
     pub sent: Sent,
     pub agree: bool,
     pub tied: bool,
+    pub others: u64,
 }
 
-// The answers of both sides to one call: the library's, and of the search the crane sent and the positions then reached.
+// What both sides tell of a call: the library's quote, and of the search the crane that it would send and the positions reached with the
+// call.
 pub struct Answers {
-    pub serving: Serving,
+    pub quote: Quote,
     pub sent: Sent,
     pub reached: Reached,
+}
+
+// Both sides after the calls of a day, and of each call the crane that the search would send.
+pub struct Followed {
+    pub sides: Sides,
+    pub sents: [Sent; CALLS],
 }
 
 // The same sides, with the floor that the search finds; they agree if they did and the book's costs are the search's.
@@ -61,6 +75,7 @@ pub(crate) fn agreed(table: &Table, size: Size, sides: Sides) -> Sides {
         sent,
         agree: sides.agree & same,
         tied: sides.tied,
+        others: sides.others,
     }
 }
 
@@ -86,6 +101,7 @@ fn begin(table: &Table, size: Size, book: Book) -> Sides {
         sent,
         agree: true,
         tied: false,
+        others: 0,
     };
     agreed(table, size, sides)
 }
@@ -99,7 +115,7 @@ fn asked(table: &Table, size: Size, sides: Sides, place: u16) -> Answers {
     let reached = positions::serve(table, size, &before, place);
     let sent = positions::choose(table, size, &reached, stands, place);
     Answers {
-        serving: Dispatch::serve(book, size.places, *table, place),
+        quote: Dispatch::quote(book, size.places, *table, place),
         sent,
         reached,
     }
@@ -110,37 +126,59 @@ fn alike(sent: Sent, crane: usize, metres: u32, least: u64) -> bool {
     (crane == sent.crane) & (metres as u64 == sent.metres) & (least == sent.least)
 }
 
-// What is done at it: the step of both sides.
-fn done(sides: Sides, answers: Answers, place: u16) -> Sides {
+// The crane so many numbers behind the quoted one, counted round.
+fn picked(cranes: usize, quoted: usize, behind: u64) -> usize {
+    if cranes == 0 {
+        return quoted;
+    }
+    std::num::wrapping_add_usize(quoted, behind as usize) % cranes
+}
+
+// What is done at it: the crane so many numbers behind the quoted one is committed, and the desk follows it.
+fn done(
+    table: &Table,
+    size: Size,
+    sides: Sides,
+    answers: Answers,
+    place: u16,
+    behind: u64,
+) -> Sides {
     let sent = answers.sent;
-    let serving = answers.serving;
-    let verdict = serving.verdict;
-    let same = alike(sent, serving.crane, serving.metres, serving.least);
-    let book = serving.book;
+    let quote = answers.quote;
+    let quoted = quote.verdict;
+    let same = alike(sent, quote.crane, quote.metres, quote.least);
+    let crane = picked(size.cranes, quote.crane, behind);
     let before = sides.desk;
-    let reached = answers.reached;
     let stands = before.stands;
+    let reached = answers.reached;
+    let moved = positions::sending(table, size, &reached, stands, place, crane);
+    let commit = Dispatch::commit(sides.book, size.places, *table, place, crane);
+    let committed = commit.verdict;
+    let accepted = (base::number(quoted) == 0) & (base::number(committed) == 0);
+    let book = commit.book;
     let desk = Desk {
         reached,
-        stands: positions::with(stands, sent.crane, place),
-        driven: std::num::wrapping_add_u64(before.driven, sent.metres),
+        stands: positions::with(stands, crane, place),
+        driven: std::num::wrapping_add_u64(before.driven, moved.metres),
         floor: 0,
     };
     Sides {
         book,
         desk,
         sent,
-        agree: sides.agree & (base::number(verdict) == 0) & same,
+        agree: sides.agree & accepted & same & (commit.least == moved.least),
         tied: sides.tied | sent.tied,
+        others: std::num::wrapping_add_u64(sides.others, (crane != quote.crane) as u64),
     }
 }
 
 // One call more, on both sides.
-pub(crate) fn call(table: &Table, size: Size, sides: Sides, place: u16) -> Sides {
+pub(crate) fn call(table: &Table, size: Size, sides: Sides, place: u16, behind: u64) -> Sides {
+    let answers = asked(table, size, sides, place);
     agreed(
         table,
         size,
-        done(sides, asked(table, size, sides, place), place),
+        done(table, size, sides, answers, place, behind),
     )
 }
 
@@ -152,26 +190,29 @@ fn line(served: ServedDay, i: usize, sent: Sent) -> bool
     (i < served.calls) & alike(sent, crane, served.metres[i], served.leasts[i])
 }
 
-// Every call of a small day, beside the served day and the sheet.
-fn calls(
-    day: Day,
-    table: &Table,
-    size: Size,
-    first: Sides,
-    served: ServedDay,
-    posted: Posted,
-) -> Sides {
+// Every call of a small day, each by the crane so many numbers behind the quoted one as the source tells.
+fn calls(day: Day, table: &Table, size: Size, first: Sides, cranes: Source) -> Followed {
     let requests = day.requests;
     let mut sides = first;
+    let mut from = cranes;
+    let before = first.sent;
+    let mut sents = [before; CALLS];
     for i in 0..CALLS {
         if i < day.calls {
-            let place = requests[i];
-            sides = call(table, size, sides, place);
-            let row = sheets::row(posted, i, place, sides.sent);
-            sides.agree = sides.agree & line(served, i, sides.sent) & row;
+            sides = call(table, size, sides, requests[i], from.rest % ROUND);
+            let sent = sides.sent;
+            sents[i] = sent;
+            from = small::behind(from, ROUND);
         }
     }
-    sides
+    Followed { sides, sents }
+}
+
+// A small day from its fresh book, by such cranes: every quote, every commit and every pair of costs.
+fn follow(day: Day, table: &Table, cranes: Source) -> Followed {
+    let size = positions::size_of(day.places, day.cranes);
+    let opening = Book::fresh(day, *table);
+    calls(day, table, size, begin(table, size, opening.book), cranes)
 }
 
 // What the library tells of a whole day.
@@ -179,15 +220,34 @@ pub(crate) fn served(day: Day, table: &Table) -> ServedDay {
     Dispatch::serve_day(day, *table)
 }
 
-// A small day from its fresh book: every call, every pair of costs, the served day and the sheet.
+// Whether the served day and the sheet tell the same of every call.
+fn lines(day: Day, sents: [Sent; CALLS], served: ServedDay, posted: Posted) -> bool {
+    let requests = day.requests;
+    let mut same = true;
+    for i in 0..CALLS {
+        if i < day.calls {
+            let sent = sents[i];
+            same = same & line(served, i, sent) & sheets::row(posted, i, requests[i], sent);
+        }
+    }
+    same
+}
+
+// A small day by the quoted cranes, beside the served day and the sheet.
 pub(crate) fn day(day: Day, table: &Table) -> Sides {
-    let size = positions::size_of(day.places, day.cranes);
-    let opening = Book::fresh(day, *table);
+    let followed = follow(day, table, small::counted(0));
+    let sents = followed.sents;
+    let mut sides = followed.sides;
     let told = served(day, table);
     let posted = sheets::write(day, table);
-    let first = begin(table, size, opening.book);
-    let mut sides = calls(day, table, size, first, told, posted);
+    let rows = lines(day, sents, told, posted) & sheets::ends(posted, day.calls);
     let sums = (told.driven == sides.desk.driven) & (told.floor == sides.desk.floor);
-    sides.agree = sides.agree & sums & sheets::ends(posted, day.calls);
+    sides.agree = sides.agree & rows & sums;
     sides
+}
+
+// The small day of a number by cranes drawn from it.
+pub(crate) fn day_by_others(day: Day, table: &Table, number: usize) -> Sides {
+    let followed = follow(day, table, small::drawn_cranes(number));
+    followed.sides
 }

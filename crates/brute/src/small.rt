@@ -30,7 +30,7 @@ fn next(seed: u64) -> u64 {
     seed % 2_147_483_647 * 48_271 % 2_147_483_647
 }
 
-// The sequence for a part of a random day: 1 its legs, 2 its starts, 3 its calls, 4 one call more.
+// The sequence for a part of a random day: 1 its legs, 2 its starts, 3 its calls, 4 one call more, 5 its cranes.
 fn drawn(number: usize, part: u64) -> Source {
     Source {
         rest: next(next(next(std::num::wrapping_add_u64(number as u64, part)))),
@@ -39,7 +39,7 @@ fn drawn(number: usize, part: u64) -> Source {
 }
 
 // The source behind its first number, which is below a bound.
-fn behind(source: Source, bound: u64) -> Source
+pub(crate) fn behind(source: Source, bound: u64) -> Source
     requires { ⌜ 0 < bound ⌝ }
 {
     let rest = if source.drawn {
@@ -208,4 +208,9 @@ pub(crate) fn drawn_place(number: usize, places: usize) -> u16
 {
     let source = drawn(number, 4);
     (source.rest as usize % places % 65_536) as u16
+}
+
+// The cranes of the day of a number: how far behind the quoted ones they are.
+pub(crate) fn drawn_cranes(number: usize) -> Source {
+    drawn(number, 5)
 }

@@ -1,14 +1,13 @@
-// Books in memory: sound ones, each refusal and the order 3, 6, 7, 4, 5, 8, 9, 10, then 5 and 7 of a call; and that a refused call hands
-// back the book as it was given.
+// Books in memory: sound ones, each refusal and the order 3, 6, 7, 4, 5, 8, 9, 10, then 5, 12 and 7 of a call; and that a refused commit
+// hands back the book as it was given.
+use crate::calls;
 use crate::days;
+use crate::entries;
 use crate::line;
 use crate::tables;
 use book::Book;
 use dispatch::Dispatch;
-use dispatch::Serving;
 use road::Table;
-ghost use Prim.Native.Nat.{_<_};
-ghost use Rattle.book.specs.Book.{mostStops};
 
 // The most that a weight may be, and one more.
 const MOST: i64 = Book::WEIGHT;
@@ -98,53 +97,25 @@ fn changed(book: Book, list: u32, at: usize, value: u16) -> Book {
     other
 }
 
-// The start, the stand, the call and the follower at an index in one number; the index comes round in the shorter lists.
-fn stops_at(book: Book, i: usize) -> u64
-    requires { ⌜ i < mostStops ⌝ }
-{
-    let crane = i % Book::CRANES;
-    ((book.starts[crane] as u64) << 48)
-        | ((book.stands[crane] as u64) << 32)
-        | ((book.requests[i % Book::CALLS] as u64) << 16)
-        | book.plan[i] as u64
-}
-
-// The weight at an index.
-fn weight_at(book: Book, i: usize) -> i64
-    requires { ⌜ i < mostStops ⌝ }
-{
-    book.weights[i]
-}
-
-// Whether two books are the same in every entry, those past their counts too.
-fn same(a: Book, b: Book) -> bool {
-    let mut same = (a.cranes == b.cranes) & (a.calls == b.calls);
-    for i in 0..Book::STOPS {
-        same = same & (stops_at(a, i) == stops_at(b, i)) & (weight_at(a, i) == weight_at(b, i));
-    }
-    same
-}
-
-// A call.
-fn serve(book: Book, places: usize, table: Table, place: u16) -> Serving {
-    Dispatch::serve(book, places, table, place)
-}
-
-// Prints of a book and a call the number that the test gives; the number of the costs, the least and the floor; the number of the call, and
-// whether it hands back zeros and the book as it was given, 1 or 0.
-fn ask(book: Book, places: usize, table: Table, place: u16) {
+// Prints of a book and a call the number that the test gives; the number of the costs, the least and the floor; the number of the quote, and
+// whether its crane, metres and least are 0, 1 or 0; the number of the commit of a crane, and whether its least is 0 and its book is the one
+// given, 1 or 0.
+fn ask(book: Book, places: usize, table: Table, place: u16, crane: usize) {
     line::verdict(book.test(places, table));
     let costs = Dispatch::costs(book, places, table);
     let told = costs.verdict;
     line::verdict(told);
     line::number(costs.least);
     line::number(costs.floor);
-    let serving = serve(book, places, table, place);
-    let answer = serving.verdict;
-    line::verdict(answer);
-    let zeros = (serving.crane == 0) & (serving.metres == 0) & (serving.least == 0);
-    let after = serving.book;
-    line::number((zeros & same(book, after)) as u64);
+    let quote = Dispatch::quote(book, places, table, place);
+    let quoted = quote.verdict;
+    line::verdict(quoted);
+    line::number(((quote.crane == 0) & (quote.metres == 0) & (quote.least == 0)) as u64);
+    let commit = Dispatch::commit(book, places, table, place, crane);
+    let committed = commit.verdict;
+    line::verdict(committed);
+    let after = commit.book;
+    line::number(((commit.least == 0) & entries::same(book, after)) as u64);
     line::comma();
 }
 
@@ -159,27 +130,28 @@ fn case(
     places: usize,
     kind: u32,
     place: u16,
+    crane: usize,
 ) {
     let book = changed(full(weight, cranes, calls), list, at, value);
-    ask(book, places, table(kind), place);
+    ask(book, places, table(kind), place, crane);
 }
 
 // A book of one crane without calls, with entries past its counts, and a full one.
 pub(crate) fn counts() {
     line::begin(19);
-    case(3, 1, 0, PLAN, 0, 0, 2, PAIR, 0);
-    case(0, 16, 256, NONE, 0, 0, 2, PAIR, 0);
+    case(3, 1, 0, PLAN, 0, 0, 2, PAIR, 0, 0);
+    case(0, 16, 256, NONE, 0, 0, 2, PAIR, 0, 0);
     // Counts and places, then the table.
     line::begin(20);
-    case(0, 16, 256, NONE, 0, 0, 65, PAIR, 0);
-    case(0, 0, 256, NONE, 0, 0, 2, PAIR, 0);
-    case(0, 17, 256, NONE, 0, 0, 2, PAIR, 0);
-    case(0, 16, 257, NONE, 0, 0, 2, PAIR, 0);
-    case(0, 16, 256, START, 15, 2, 2, PAIR, 0);
-    case(0, 16, 256, CALL, 255, 2, 2, PAIR, 0);
-    case(0, 16, 256, STAND, 15, 2, 2, PAIR, 0);
-    case(0, 16, 256, NONE, 0, 0, 3, OWN, 0);
-    case(0, 16, 256, NONE, 0, 0, 3, BROKEN, 0);
+    case(0, 16, 256, NONE, 0, 0, 65, PAIR, 0, 0);
+    case(0, 0, 256, NONE, 0, 0, 2, PAIR, 0, 0);
+    case(0, 17, 256, NONE, 0, 0, 2, PAIR, 0, 0);
+    case(0, 16, 257, NONE, 0, 0, 2, PAIR, 0, 0);
+    case(0, 16, 256, START, 15, 2, 2, PAIR, 0, 0);
+    case(0, 16, 256, CALL, 255, 2, 2, PAIR, 0, 0);
+    case(0, 16, 256, STAND, 15, 2, 2, PAIR, 0, 0);
+    case(0, 16, 256, NONE, 0, 0, 3, OWN, 0, 0);
+    case(0, 16, 256, NONE, 0, 0, 3, BROKEN, 0, 0);
 }
 
 // A plan that names a stand twice, one with a follower out of range, one that goes back to an earlier call. Then a crane driven away: the
@@ -187,20 +159,22 @@ pub(crate) fn counts() {
 pub(crate) fn plans() {
     let full = full(0, 16, 256);
     line::begin(21);
-    case(0, 16, 256, PLAN, 1, 2, 2, PAIR, 0);
-    case(0, 16, 256, PLAN, 271, 272, 2, PAIR, 0);
+    case(0, 16, 256, PLAN, 1, 2, 2, PAIR, 0, 0);
+    case(0, 16, 256, PLAN, 271, 272, 2, PAIR, 0, 0);
     ask(
         changed(changed(full, PLAN, 18, 21), PLAN, 20, 19),
         2,
         table(PAIR),
         0,
+        0,
     );
     line::begin(22);
-    case(0, 16, 256, STAND, 0, 1, 2, PAIR, 0);
+    case(0, 16, 256, STAND, 0, 1, 2, PAIR, 0, 0);
     ask(
         changed(changed(full, STAND, 0, 1), WEIGHT, 0, 7),
         2,
         table(PAIR),
+        0,
         0,
     );
 }
@@ -208,27 +182,39 @@ pub(crate) fn plans() {
 // Weights at the ends of their range and past them; that of a call, and that of a stand, above the others.
 pub(crate) fn weights() {
     line::begin(23);
-    case(MOST, 16, 256, NONE, 0, 0, 2, PAIR, 0);
-    case(-MOST, 16, 256, NONE, 0, 0, 2, PAIR, 0);
-    case(OVER, 16, 256, NONE, 0, 0, 2, PAIR, 0);
-    case(-OVER, 16, 256, NONE, 0, 0, 2, PAIR, 0);
-    case(0, 16, 256, WEIGHT, 271, 1, 2, PAIR, 0);
-    case(0, 16, 256, WEIGHT, 15, 1, 2, PAIR, 0);
+    case(MOST, 16, 256, NONE, 0, 0, 2, PAIR, 0, 0);
+    case(-MOST, 16, 256, NONE, 0, 0, 2, PAIR, 0, 0);
+    case(OVER, 16, 256, NONE, 0, 0, 2, PAIR, 0, 0);
+    case(-OVER, 16, 256, NONE, 0, 0, 2, PAIR, 0, 0);
+    case(0, 16, 256, WEIGHT, 271, 1, 2, PAIR, 0, 0);
+    case(0, 16, 256, WEIGHT, 15, 1, 2, PAIR, 0, 0);
 }
 
-// 3 before 6, 6 before 7, 7 before 4, 4 before 5, 5 before 8, 8 before 9, 9 before 10. Then 10 before 5 of the call's place, and that
-// before 7.
+// 3 before 6, 6 before 7, 7 before 4, 4 before 5, 5 before 8, 8 before 9, 9 before 10. Then 10 before 5 of the call's place, that before 12,
+// 12 before 7, and 7.
 pub(crate) fn order() {
     line::begin(24);
-    case(0, 0, 256, NONE, 0, 0, 0, PAIR, 0);
-    case(0, 17, 257, NONE, 0, 0, 2, PAIR, 0);
-    case(0, 16, 257, NONE, 0, 0, 3, OWN, 0);
-    case(0, 16, 256, STAND, 0, 3, 3, OWN, 0);
-    case(0, 16, 256, STAND, 0, 3, 3, BROKEN, 0);
-    case(0, 16, 256, PLAN, 1, 2, 3, BROKEN, 0);
-    case(OVER, 16, 256, PLAN, 1, 2, 2, PAIR, 0);
-    case(OVER, 16, 256, NONE, 0, 0, 2, PAIR, 2);
-    case(0, 16, 256, NONE, 0, 0, 2, PAIR, 2);
+    case(0, 0, 256, NONE, 0, 0, 0, PAIR, 0, 0);
+    case(0, 17, 257, NONE, 0, 0, 2, PAIR, 0, 0);
+    case(0, 16, 257, NONE, 0, 0, 3, OWN, 0, 0);
+    case(0, 16, 256, STAND, 0, 3, 3, OWN, 0, 0);
+    case(0, 16, 256, STAND, 0, 3, 3, BROKEN, 0, 0);
+    case(0, 16, 256, PLAN, 1, 2, 3, BROKEN, 0, 0);
+    case(OVER, 16, 256, PLAN, 1, 2, 2, PAIR, 0, 0);
+    case(OVER, 16, 256, NONE, 0, 0, 2, PAIR, 2, 0);
+    case(0, 16, 256, NONE, 0, 0, 2, PAIR, 2, 16);
+    case(0, 16, 256, NONE, 0, 0, 2, PAIR, 0, 16);
+    case(0, 16, 256, NONE, 0, 0, 2, PAIR, 0, 15);
+}
+
+// Books with space for the call: one crane, sent itself, and numbers above it; sixteen cranes, the last one sent, and the number above it.
+pub(crate) fn cranes() {
+    line::begin(25);
+    case(3, 1, 0, PLAN, 0, 0, 2, PAIR, 1, 0);
+    case(3, 1, 0, PLAN, 0, 0, 2, PAIR, 1, 1);
+    case(3, 1, 0, PLAN, 0, 0, 2, PAIR, 1, 18_446_744_073_709_551_615);
+    case(0, 16, 255, PLAN, 270, 0, 2, PAIR, 1, 15);
+    case(0, 16, 255, PLAN, 270, 0, 2, PAIR, 1, 16);
 }
 
 // A fresh book, and the book of zeros that a refused day opens.
@@ -237,25 +223,11 @@ pub(crate) fn fresh() {
     let day = days::day(3, 2, 3, 2, 1);
     let opening = Book::fresh(day, table);
     let refused = Book::fresh(day, tables::three(10, 26, 15));
-    line::begin(25);
+    line::begin(26);
     let book = opening.book;
     let zeros = refused.book;
-    ask(book, 3, table, 0);
-    ask(zeros, 3, table, 0);
-    line::begin(26);
-    ask(filled(book, table), 3, table, 0);
-}
-
-// A book of case A served to its 256 calls. Prints how many were accepted.
-fn filled(fresh: Book, table: Table) -> Book {
-    let mut book = fresh;
-    let mut accepted = 0;
-    for i in 0..Book::CALLS {
-        let serving = serve(book, 3, table, (i % 3) as u16);
-        let verdict = serving.verdict;
-        accepted = std::num::wrapping_add_u64(accepted, (base::number(verdict) == 0) as u64);
-        book = serving.book;
-    }
-    line::number(accepted);
-    book
+    ask(book, 3, table, 0, 0);
+    ask(zeros, 3, table, 0, 0);
+    line::begin(27);
+    ask(calls::filled(book, table), 3, table, 0, 0);
 }

@@ -1,7 +1,9 @@
 // Runs document 01's cases on the compiled library and prints what each gives, below a legend of the lines. Stands on all the libraries here,
 // and on the toolchain's `io` for writing.
 mod books;
+mod calls;
 mod days;
+mod entries;
 mod files;
 mod line;
 mod prints;
@@ -20,7 +22,7 @@ fn read() {
     files::calls();
 }
 
-// Days and books in memory, prints and sheets.
+// Days, books and calls in memory, prints and sheets.
 fn memory() {
     days::each();
     days::order();
@@ -28,7 +30,9 @@ fn memory() {
     books::plans();
     books::weights();
     books::order();
+    books::cranes();
     books::fresh();
+    calls::last();
     prints::days();
     prints::refusals();
     sheets::buffers();
@@ -60,23 +64,27 @@ Days in memory: the numbers of the test, of a fresh book, of the served day and 
 16 accepted, and by each number; legs 10, 0, 15
 17 3 before 6 before 7 before 4 before 5 before 8
 18 into 95 bytes, the same by 8, into 96 and 97
-Books: the number of the test; the number of the costs, least and floor; the number of a call, and whether it hands back zeros and the same book.
+Books: the number of the test; the number of the costs, least and floor; the number of the quote, and whether the rest of it is 0; the number of the commit, and whether its least is 0 and its book the same.
 19 one crane and no call; sixteen and 256
 20 counts, places and tables
 21 a stand named twice, a follower out of range, back to an earlier call
 22 a crane driven away, and its weight raised
 23 weights
-24 3 before 6 before 7 before 4 before 5 before 8 before 9 before 10, then 5 and 7
-25 a fresh one, and that of a refused day
-26 a book filled, calls accepted, and one more
+24 3 before 6 before 7 before 4 before 5 before 8 before 9 before 10, then 5 before 12 before 7
+25 one crane: crane 0, crane 1 and the highest number; sixteen: crane 15 and crane 16
+26 a fresh one, and that of a refused day
+27 a book filled, quotes and commits accepted, and one more
+Case A before its last call: the number of the quote, crane, metres and least; the number of a commit, its least, and the least of its book.
+28 the quote; cranes 0, 1 and 2; crane 2 to place 3
+29 with entries past the counts that break every rule: the quote; cranes 0 and 1, and whether the book is that of 28 and is 0 past its counts
 Prints: the text of the print, then of the sheet, and whether all bytes past each are 0.
-27 case A; one place and one crane; the same and a call
-28 an empty file; 13 bytes; legs missing; legs 10, 26, 15
+30 case A; one place and one crane; the same and a call
+31 an empty file; 13 bytes; legs missing; legs 10, 26, 15
 Sheets: the rows, the number, the length and whether the rest is as before.
-29 case A into 83, 84 and 85 bytes; legs 10, 26, 15 into 83 and 84
-30 no calls into no bytes and into 85
-31 case A, with numbers past the counts that break every rule
-32 the last row of 256 calls; place 63 and crane 15",
+32 case A into 83, 84 and 85 bytes; legs 10, 26, 15 into 83 and 84
+33 no calls into no bytes and into 85
+34 case A, with numbers past the counts that break every rule
+35 the last row of 256 calls; place 63 and crane 15",
     );
 }
 

@@ -21,14 +21,14 @@ use Rattle.workfunction.proofs.Movement.{instance-then}
 use Rattle.workfunction.proofs.Plan.{Plan, plan-facts}
 use Rattle.workfunction.proofs.Position.{position-set}
 use Rattle.workfunction.proofs.Stops.{stop-placed, follower-placed, stops-more, place-last, place-early, place-crane, place-others}
-use Rattle.workfunction.proofs.Sums.{sum-same, entry-in}
+use Rattle.workfunction.proofs.Sums.{sum-same, sum-most, entry-in}
 use Rattle.workfunction.proofs.Witness.{witness-work}
 use Rattle.book.specs.Book.{mostStops, follower, weight, rangeRule}
 use Rattle.dispatch.specs.declared.insert.Pick.{Pick}
-use Rattle.dispatch.specs.Insertion.{leastEnd, picked, Inserted, Unmoved, Roads, Kept, Answered}
+use Rattle.dispatch.specs.Insertion.{leastEnd, picked, Found, Inserted, Unmoved, Roads, Kept, Answered, Netted}
 use Rattle.dispatch.specs.Legs.{legAt, LegTable, RowCopied}
 use Rattle.dispatch.specs.Search.{Witnessed}
-use Rattle.dispatch.proofs.Insertion.{inserted-plan, inserted-range, range-moved, end-choice, inserted-served}
+use Rattle.dispatch.proofs.Insertion.{inserted-plan, inserted-range, range-moved, netted-choice, found-netted, inserted-served}
 use Rattle.dispatch.proofs.insert.Laws.{taken-self, taken-plan}
 use Rattle.book.proofs.Vouching.{vouch-over-legs}
 
@@ -103,6 +103,30 @@ module _ {n : ℕ} {d read : ℕ → ℕ → ℕ} (roads : Roads n d read) where
       kept-plan : Plan (length starts) (stops starts calls) (follower (set plan (stops starts calls) (stops starts calls)))
       kept-plan = taken-plan (length starts) (stops starts calls) plan (kept .certified .planned)
 
+      -- what the plan costs as it is kept, with and without the call
+      kept-present : planCost (stops starts calls) (legCost d starts calls stands) (follower (set plan (stops starts calls) (stops starts calls)))
+          ≡ planCost (stops starts calls) (legAt longer) (follower plan)
+      unfolding planCost
+      kept-present =
+          let below = plan-facts (length starts) (stops starts calls) (follower plan) (kept .certified .planned) .below in
+          sum-same (stops starts calls) _ _ (λ p h.
+          ap (legCost d starts calls stands p) (getD-set-other plan (stops starts calls) p (stops starts calls) 0 (λ e. omega arith))
+          ∙ sym (leg-early p (follower plan p) h (below p h)))
+
+      pub kept-most : planCost (stops starts calls) (legAt longer) (follower plan) ≤ stops starts calls * mostMetres
+      unfolding planCost
+      kept-most =
+          let below = plan-facts (length starts) (stops starts calls) (follower plan) (kept .certified .planned) .below in
+          sum-most (stops starts calls) mostMetres _ (λ p h. longer-short p (follower plan p) (le-of-lt h) (le-of-lt (below p h)))
+
+      -- the search for the call tells w and the drive of every crane
+      pub kept-netted : {total parent rank before netEnd : ℕ → ℕ}
+          → Found (length starts) (stops starts calls) (follower (set plan (stops starts calls) (stops starts calls))) (legAt longer) total parent
+          rank before netEnd
+          → Netted n d starts calls stands r (planCost (stops starts calls) (legAt longer) (follower plan)) netEnd (legAt longer)
+      kept-netted found =
+          rw kept-present at (found-netted (roads .laws) (kept .asked .day) (kept .standing) asked kept-plan kept-self leg-longer found)
+
       module _ {s : ℕ} {g : ℕ → ℕ} {old y : ℕ → ℤ}
           (taken : Inserted (length starts) (stops starts calls) (follower (set plan (stops starts calls) (stops starts calls))) (legAt longer) s g old y) where
         -- the call taken in: the plan
@@ -157,7 +181,7 @@ module _ {n : ℕ} {d read : ℕ → ℕ → ℕ} (roads : Roads n d read) where
           served-vouched : vouchRule (length starts) (stops starts calls + 1) (follower plan')
               (legCost d starts (calls ++ (r ∷ [])) (moved stands r s)) (weight (set weights' s (pos 0))) ≡ true
           served-vouched =
-              inserted-served (roads .laws) (kept .asked .day) (kept .standing) asked kept-plan kept-self taken leg-longer
+              inserted-served (roads .laws) (kept .asked .day) (kept .standing) asked kept-plan kept-self leg-longer taken
               (weight (set weights' s (pos 0))) crane-weight other-weight
 
           served-kept : Kept n d starts (calls ++ (r ∷ [])) (moved stands r s) plan' (set weights' s (pos 0)) left
@@ -192,7 +216,7 @@ module _ {n : ℕ} {d read : ℕ → ℕ → ℕ} (roads : Roads n d read) where
               (set weights' s (pos 0)) left
           unfolding servedBy drive
           call-answered {pick} chosen e w =
-              let least = end-choice (roads .laws) (kept .asked .day) (kept .standing) asked kept-plan kept-self taken leg-longer in
+              let least = netted-choice (kept .asked .day) (kept .standing) (kept-netted (taken .found)) in
               let way = roads .reads (getD stands s 0) r (kept .standing .placed (entry-in stands s crane)) asked in
               record {
                 crane = crane;

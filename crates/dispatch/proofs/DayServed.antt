@@ -3,13 +3,13 @@
 use Prim.Native.Nat.{ℕ, _+_, _*_, _<_, _≤_}
 use mathlib.Core.List.{List, [], _∷_, _++_}
 use mathlib.Core.Path.{_≡_, refl, sym, ap, _∙_}
-use lib.IntN.{ℤ}
-use lib.ListN.{length, getD, set, take, drop, replicate}
+use lib.IntN.{ℤ, pos}
+use lib.ListN.{length, getD, set, take, drop, replicate, length-replicate}
 use lib.Seq.{drop-cons, take-suc, drop-drop, getD-drop}
 use native.Mathlib.Nat.{add-zero, le-antisymm}
 use native.Mathlib.Numerals.{add-one}
 use native.Mathlib.Omega.{arith}
-use Rattle.base.proofs.Lists.{take-kept, drop-replicate, Filled, fill-begun, fill-turned, fill-ended}
+use Rattle.base.proofs.Lists.{length-padded, take-kept, drop-replicate, Filled, fill-begun, fill-turned, fill-ended}
 use Rattle.road.specs.Table.{Table, metresOf, entry}
 use Rattle.dayfile.specs.declared.Day.{Day}
 use Rattle.dayfile.specs.Day.{mostCranes, mostCalls, dayStarts, dayRequests, DayArrays, dayRefusal}
@@ -25,7 +25,8 @@ use Rattle.dispatch.specs.declared.insert.Pick.{Pick}
 use Rattle.dispatch.specs.declared.insert.Pick.the-variants.{Least}
 use Rattle.dispatch.specs.Insertion.{Asked, Kept, Answered, DayAnswered}
 use Rattle.dispatch.specs.Legs.{LegTable}
-use Rattle.dispatch.specs.Serving.{unserved, nth, DayFigures, servedDay}
+use Rattle.dispatch.specs.Quote.{unserved}
+use Rattle.dispatch.specs.ServedDay.{nth, DayFigures, servedDay}
 use Rattle.dispatch.proofs.Carried.{sound-kept}
 use Rattle.book.proofs.FreshBook.{fresh-sound}
 use Rattle.book.proofs.Sound.{Fits, placed, Sound, book-sound, sound-fits}
@@ -123,6 +124,21 @@ pub record FreshDay (day : Day) (t : Table) (book : Book) : Type 0 where
   pub plan : length (book .plan) ≡ mostStops
   pub weights : length (book .weights) ≡ mostStops
 
+-- the fresh book of an accepted day is one
+pub fresh-day : {day : Day} {t : Table} → DayArrays day → dayRefusal day t ≡ 0 → FreshDay day t (freshBook (day .cranes) (day .starts))
+unfolding freshBook
+fresh-day {day} {t} lengths none =
+    let k = day-tested day t none .counts in
+    let most = length-padded mostCranes (day .cranes) (λ j. getD (day .starts) j 0) 0 (k .cranes) in
+    record {
+      none = none;
+      lengths = lengths;
+      fresh = refl;
+      arrays = record { starts = most; stands = most; requests = length-replicate {A = ℕ} mostCalls 0 };
+      plan = length-padded mostStops (day .cranes) (λ j. j) 0 (omega arith);
+      weights = length-replicate mostStops (pos 0);
+    }
+
 module _ {day : Day} {t : Table} {book : Book} (given : FreshDay day t book) where
   tests : Tested day t
   tests = day-tested day t (given .none)
@@ -151,7 +167,7 @@ module _ {day : Day} {t : Table} {book : Book} (given : FreshDay day t book) whe
         few = rw calls-long (tests .counts .calls);
       }
 
-  no-calls : requestsOf book ≡ []
+  pub no-calls : requestsOf book ≡ []
   unfolding freshBook
   no-calls = rw (given .fresh)
 
@@ -162,11 +178,11 @@ module _ {day : Day} {t : Table} {book : Book} (given : FreshDay day t book) whe
       rw no-calls at (sound-kept (given .arrays) day-sound (omega (arith, given .plan)) (omega (arith, given .weights)) long table)
 
   -- each crane stands at its start
-  at-starts : startsOf book ≡ dayStarts day
+  pub at-starts : startsOf book ≡ dayStarts day
   unfolding freshBook
   at-starts = rw (given .fresh) (take-kept mostCranes (day .cranes) (day .starts) 0 (enough-starts day (given .lengths) (tests .counts .cranes)))
 
-  at-stands : standsOf book ≡ startsOf book
+  pub at-stands : standsOf book ≡ startsOf book
   unfolding freshBook
   at-stands = rw (given .fresh)
 

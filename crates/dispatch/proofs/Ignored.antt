@@ -4,24 +4,26 @@ use Prim.Native.Nat.{ℕ, _<_}
 use mathlib.Core.Bool.{true}
 use mathlib.Core.List.{List, []}
 use mathlib.Core.Path.{_≡_, refl, sym, _∙_}
-use borrow.Author.Tests.{ltb-true}
-use lib.Dec.{ltb}
 use lib.IntN.{ℤ, pos}
 use lib.ListN.{length}
 use Rattle.base.proofs.Lists.{padded-same, kept-same}
-use Rattle.base.proofs.Numbers.{then-zero, first-of, told-alike}
+use Rattle.base.proofs.Numbers.{told-alike}
 use Rattle.road.specs.Table.{Table, metresOf}
 use Rattle.dayfile.specs.declared.Day.{Day}
 use Rattle.dayfile.specs.Day.{mostCranes, mostCalls, stopsRule, dayStarts, dayRequests, SameDay}
 use Rattle.dayfile.proofs.Ignored.{same-refusal}
 use Rattle.dayfile.proofs.Limits.{Tested, day-tested}
 use Rattle.workfunction.specs.Position.{Position}
-use Rattle.workfunction.proofs.Same.{work-same, floor-same, served-same, serve-same}
+use Rattle.workfunction.proofs.Same.{work-same, floor-same, workThen-same, served-same, serve-same}
 use Rattle.book.specs.declared.Book.{Book}
-use Rattle.book.specs.Book.{mostStops, startsOf, standsOf, requestsOf, stopsOf, follower, weight, SameBook, bookRefusal}
+use Rattle.book.specs.Book.{mostStops, startsOf, standsOf, requestsOf, stopsOf, follower, weight, SameBook}
 use Rattle.book.proofs.Ignored.{past-counts-ignored}
 use Rattle.book.proofs.Sound.{placed, Sound, book-sound}
-use Rattle.dispatch.specs.Serving.{servingRefusal, tidied, Outcome, figuresOf, servedOf, costsOf, servedDay}
+use Rattle.dispatch.specs.Commit.{commitRefusal, tidied, leastAfter, Committed, commitOf}
+use Rattle.dispatch.specs.Costs.{costsOf}
+use Rattle.dispatch.specs.Quote.{quoteRefusal, quoteOf}
+use Rattle.dispatch.specs.ServedDay.{servedDay}
+use Rattle.dispatch.proofs.Called.{Called, quote-called, commit-called}
 
 -- places that keep their rule, as many as they are
 position : (n : ℕ) (l : List ℕ) → stopsRule n l ≡ true → Position n (length l) l
@@ -67,32 +69,47 @@ module _ (a b : Book) (n : ℕ) (t s : Table) (books : SameBook a b)
       }
 
   module _ (r : ℕ) where
-    -- the number of a call
-    pub same-serving : servingRefusal a n t r ≡ servingRefusal b n s r
-    same-serving = rw (past-counts-ignored a b n t s books tables, books .calls)
+    -- the number of a quote
+    same-quote-number : quoteRefusal a n t r ≡ quoteRefusal b n s r
+    same-quote-number = rw (past-counts-ignored a b n t s books tables, books .calls)
 
-    -- its figures
-    pub same-figures : servingRefusal a n t r ≡ 0 → figuresOf a n t r ≡ figuresOf b n s r
-    same-figures h =
-        let tested = then-zero (bookRefusal a n t) _ h in
-        let sound : Sound a n t = book-sound (tested .0) in
-        let asked = ltb-true r n (first-of (ltb r n) 4 _ (tested .1) .0) in
-        rw (← books .starts, ← books .requests, ← books .stands) (served-same tables (started sound) (requestsOf a) (standing sound) asked)
+    -- the quote
+    pub same-quote-told : quoteOf a n t r ≡ quoteOf b n s r
+    unfolding quoteOf
+    same-quote-told =
+        told-alike _≡_ _ _ same-quote-number
+        (λ h.
+        let called : Called a n t r = quote-called h in
+        let figures = served-same tables (started (called .sound)) (requestsOf a) (standing (called .sound)) (called .on) in
+        rw (← books .starts, ← books .requests, ← books .stands, figures))
+        (λ k. refl)
 
-    -- what is told of it, served or refused
-    pub same-call-told : (plan plan' : List ℕ) (weights weights' : List ℤ)
-        → (servedOf a n t r plan weights .number ≡ servedOf b n s r plan' weights' .number)
-        × (servedOf a n t r plan weights .figures ≡ servedOf b n s r plan' weights' .figures)
-    unfolding servedOf
-    same-call-told plan plan' weights weights' =
-        told-alike (λ (x y : Outcome). (x .number ≡ y .number) × (x .figures ≡ y .figures)) _ _ same-serving
-        (λ h. (refl, same-figures h)) (λ k. (refl, refl))
+    module _ (crane : ℕ) where
+      -- the number of a commit
+      same-commit-number : commitRefusal a n t r crane ≡ commitRefusal b n s r crane
+      same-commit-number = rw (past-counts-ignored a b n t s books tables, books .calls, books .cranes)
 
-    -- all that serving it gives; the book of a refused call is the caller's, as it was given
-    pub same-outcome : servingRefusal a n t r ≡ 0 → (plan : List ℕ) (weights : List ℤ)
-        → servedOf a n t r plan weights ≡ servedOf b n s r plan weights
-    unfolding servedOf
-    same-outcome h plan weights = rw (h, sym same-serving ∙ h, same-figures h, same-tidied)
+      -- its least
+      same-least-after : commitRefusal a n t r crane ≡ 0 → leastAfter a n t r crane ≡ leastAfter b n s r crane
+      same-least-after h =
+          let called : Called a n t r = commit-called h .0 in
+          rw (← books .starts, ← books .requests, ← books .stands)
+          (workThen-same tables (started (called .sound)) (requestsOf a) (standing (called .sound)) (called .on) crane)
+
+      -- what is told of it, committed or refused
+      pub same-commit-told : (plan plan' : List ℕ) (weights weights' : List ℤ)
+          → (commitOf a n t r crane plan weights .number ≡ commitOf b n s r crane plan' weights' .number)
+          × (commitOf a n t r crane plan weights .least ≡ commitOf b n s r crane plan' weights' .least)
+      unfolding commitOf
+      same-commit-told plan plan' weights weights' =
+          told-alike (λ (x y : Committed). (x .number ≡ y .number) × (x .least ≡ y .least)) _ _ same-commit-number
+          (λ h. (refl, same-least-after h)) (λ k. (refl, refl))
+
+      -- all that it gives; the book of a refused commit is the caller's, as it was given
+      pub same-commit : commitRefusal a n t r crane ≡ 0 → (plan : List ℕ) (weights : List ℤ)
+          → commitOf a n t r crane plan weights ≡ commitOf b n s r crane plan weights
+      unfolding commitOf
+      same-commit h plan weights = rw (h, sym same-commit-number ∙ h, same-least-after h, same-tidied)
 
 -- ---- a day
 

@@ -25,7 +25,7 @@ use Rattle.workfunction.proofs.Plan.{Plan, plan-rule, stop-only}
 use Rattle.workfunction.proofs.Stops.{place-last, place-stand}
 use Rattle.workfunction.proofs.Sums.{entry-in}
 use Rattle.book.specs.Book.{mostStops, weightRule, rangeRule}
-use Rattle.dispatch.specs.Insertion.{leastEnd, Inserted}
+use Rattle.dispatch.specs.Insertion.{leastEnd, Found, Inserted, Netted}
 use Rattle.dispatch.specs.Search.{netBase, netOf, Matched}
 use Rattle.book.proofs.Vouching.{in-range}
 
@@ -108,45 +108,23 @@ range-moved n s y z range zero same = below-all _ n (λ b h. each b h (ℕ-discr
 
 -- ---- a call served
 
+-- where each crane's net cost tells w and its way is its drive, the least end is the crane that the choice sends
+pub netted-choice : {n : ℕ} {d : ℕ → ℕ → ℕ} {starts calls stands : List ℕ} {r present : ℕ} {netEnd : ℕ → ℕ} {c : ℕ → ℕ → ℕ}
+    → Instance n starts calls → Position n (length starts) stands → Netted n d starts calls stands r present netEnd c
+    → leastEnd (length starts) (stops starts calls) netEnd c ≡ choice d n starts calls stands r
+unfolding choice moveSum
+netted-choice {present = present} day standing told =
+    rw (standing .cranes)
+    (preferred-same (day .crane)
+    (next present netBase (λ e h. let work = told .works e h in let way = told .ways e h in omega arith)
+    (next 0 0 (λ e h. let way = told .ways e h in omega arith) none)))
+
 module _ {n : ℕ} {d : ℕ → ℕ → ℕ} (laws : Metric n d) {starts calls stands : List ℕ} (day : Instance n starts calls)
     (standing : Position n (length starts) stands) {r : ℕ} (asked : r < n) {f : ℕ → ℕ} (plan : Plan (length starts) (stops starts calls) f)
-    (self : f (stops starts calls) ≡ stops starts calls) {c : ℕ → ℕ → ℕ} {s : ℕ} {g : ℕ → ℕ} {old y : ℕ → ℤ}
-    (taken : Inserted (length starts) (stops starts calls) f c s g old y)
+    (self : f (stops starts calls) ≡ stops starts calls) {c : ℕ → ℕ → ℕ}
     (table : (p b : ℕ) → p ≤ stops starts calls → b ≤ stops starts calls → c p b ≡ legCost d starts (calls ++ (r ∷ [])) stands p b) where
   abbrev N : ℕ
   N = stops starts calls
-
-  -- the net costs are those of the legs
-  nets : NetCosts (length starts) N netBase f (legCost d starts (calls ++ (r ∷ [])) stands) (netOf f c (taken .total)) (taken .parent) (taken .rank)
-  nets = record {
-    source = costs .source;
-    least = λ p q lt le may.
-        let own = leg p p (le-of-lt lt) (le-of-lt lt) in
-        let other = leg p q (le-of-lt lt) le in
-        let least = costs .least p q lt le may in
-        omega arith;
-    attained = λ p lt.
-        let own = leg p p (le-of-lt lt) (le-of-lt lt) in
-        let other = leg p (taken .parent p) (le-of-lt lt) (costs .chains .below p lt) in
-        let attained = costs .attained p lt in
-        omega arith;
-    allowed = costs .allowed;
-    chains = costs .chains;
-    ranked = costs .ranked;
-  }
-    where
-      costs : NetCosts (length starts) (N) netBase f c (netOf f c (taken .total)) (taken .parent) (taken .rank)
-      costs = taken .found .searched .nets
-
-      leg : (p q : ℕ) → p ≤ N → q ≤ N → c p (f q) ≡ legCost d starts (calls ++ (r ∷ [])) stands p (f q)
-      leg p q h hq = table p (f q) h (matched-plan plan self .below q hq)
-
-  -- the net cost of the stop before a crane's stand tells w for that crane
-  pub crane-work : (e : ℕ) → e < length starts → work d n starts (calls ++ (r ∷ [])) (moved stands r e) + netBase
-      ≡ planCost N (legCost d starts calls stands) f + taken .netEnd e
-  crane-work e h =
-      let free = taken .found .freed in
-      rw (free .costs e h) (net-work laws day standing asked plan self nets (taken .before e) e (free .stop e h) h (free .follows e h))
 
   -- the way from the new call to a stand is the crane's drive
   way-drive : (e : ℕ) → e < length starts → c N e ≡ drive d stands r e
@@ -157,20 +135,47 @@ module _ {n : ℕ} {d : ℕ → ℕ → ℕ} (laws : Metric n d) {starts calls s
       table N e (le-refl N) (omega arith)
       ∙ rw (place-last starts calls r, place-stand stands (calls ++ (r ∷ [])) e stand) (laws .both-ways r (getD stands e 0) asked placed)
 
-  -- the least end is the crane that the choice sends
-  pub end-choice : leastEnd (length starts) N (taken .netEnd) c ≡ choice d n starts calls stands r
-  unfolding choice moveSum
-  end-choice =
-      rw (standing .cranes)
-      (preferred-same (day .crane)
-      (next (planCost N (legCost d starts calls stands) f) netBase
-      (λ e h. let work = crane-work e h in let way = way-drive e h in omega arith)
-      (next 0 0 (λ e h. let way = way-drive e h in omega arith) none)))
+  module _ {total parent rank before netEnd : ℕ → ℕ} (found : Found (length starts) N f c total parent rank before netEnd) where
+    -- the net costs are those of the legs
+    nets : NetCosts (length starts) N netBase f (legCost d starts (calls ++ (r ∷ [])) stands) (netOf f c total) parent rank
+    nets = record {
+      source = costs .source;
+      least = λ p q lt le may.
+          let own = leg p p (le-of-lt lt) (le-of-lt lt) in
+          let other = leg p q (le-of-lt lt) le in
+          let least = costs .least p q lt le may in
+          omega arith;
+      attained = λ p lt.
+          let own = leg p p (le-of-lt lt) (le-of-lt lt) in
+          let other = leg p (parent p) (le-of-lt lt) (costs .chains .below p lt) in
+          let attained = costs .attained p lt in
+          omega arith;
+      allowed = costs .allowed;
+      chains = costs .chains;
+      ranked = costs .ranked;
+    }
+      where
+        costs : NetCosts (length starts) N netBase f c (netOf f c total) parent rank
+        costs = found .searched .nets
 
-  -- with that crane at the call its weight is 0, and the others are the negated net costs
-  pub inserted-served : (z : ℕ → ℤ) → z s ≡ pos 0 → ((b : ℕ) → (b ≡ s → ⊥) → z b ≡ y b)
+        leg : (p q : ℕ) → p ≤ N → q ≤ N → c p (f q) ≡ legCost d starts (calls ++ (r ∷ [])) stands p (f q)
+        leg p q h hq = table p (f q) h (matched-plan plan self .below q hq)
+
+    -- the net cost of the stop before a crane's stand tells w for that crane
+    crane-work : (e : ℕ) → e < length starts → work d n starts (calls ++ (r ∷ [])) (moved stands r e) + netBase
+        ≡ planCost N (legCost d starts calls stands) f + netEnd e
+    crane-work e h =
+        let free = found .freed in
+        rw (free .costs e h) (net-work laws day standing asked plan self nets (before e) e (free .stop e h) h (free .follows e h))
+
+    pub found-netted : Netted n d starts calls stands r (planCost N (legCost d starts calls stands) f) netEnd c
+    found-netted = record { works = crane-work; ways = way-drive }
+
+  -- with crane s at the call its weight is 0, and the others are the negated net costs
+  pub inserted-served : {s : ℕ} {g : ℕ → ℕ} {old y : ℕ → ℤ} (taken : Inserted (length starts) N f c s g old y) (z : ℕ → ℤ) → z s ≡ pos 0
+      → ((b : ℕ) → (b ≡ s → ⊥) → z b ≡ y b)
       → vouchRule (length starts) (N + 1) g (legCost d starts (calls ++ (r ∷ [])) (moved stands r s)) z ≡ true
-  inserted-served z zero same =
+  inserted-served {s} taken z zero same =
       let free = taken .found .freed in
-      flipped-rule laws day standing asked plan self nets (taken .before s) s (free .stop s (taken .end)) (taken .end) (free .follows s (taken .end))
-      (taken .flipped) z zero (λ q h away. same (f q) away ∙ weighed plan self taken q h)
+      flipped-rule laws day standing asked plan self (nets (taken .found)) (taken .before s) s (free .stop s (taken .end)) (taken .end)
+      (free .follows s (taken .end)) (taken .flipped) z zero (λ q h away. same (f q) away ∙ weighed plan self taken q h)

@@ -1,4 +1,6 @@
 pub mod Roads
+pub mod Called
+pub mod Added
 pub mod Ignored
 pub mod Insertion
 pub mod Answered
@@ -6,3 +8,4 @@ pub mod FreeEnds
 pub mod Carried
 pub mod DayServed
 pub mod Promise
+pub mod InTurn

@@ -1,34 +1,37 @@
--- The third promise: what the two costs of a sound book, the figures of a served call and those of a served day are the least of:
--- of every movement and of every rearrangement, several cranes at a time included. Assumes nothing.
+-- The third promise: what the two costs of a sound book, the figures of a quote, the least of a commit and the figures of a served
+-- day are the least of: of every movement and of every rearrangement, several cranes at a time included. Assumes nothing.
 use Prim.Native.Nat.{ℕ, suc, _+_, _*_, _<_}
-use mathlib.Core.List.{List, [], List·Memᴰ·not-nil}
+use mathlib.Core.List.{List, [], _∷_, _++_, List·Memᴰ·not-nil}
 use mathlib.Core.Path.{_≡_, refl, sym, _∙_}
-use borrow.Author.Tests.{ltb-true}
-use lib.Dec.{ltb}
+use lib.IntN.{ℤ}
 use lib.ListN.{length, getD, take}
 use native.Mathlib.Nat.{zero-add}
 use Rattle.base.specs.Lists.{upTo}
 use Rattle.base.proofs.Lists.{getD-padded, take-padded, take-upTo}
-use Rattle.base.proofs.Numbers.{then-zero, first-of}
 use Rattle.road.specs.Table.{Table, mostMetres, metresOf}
 use Rattle.road.proofs.Surveyed.{surveyed-metric, surveyed-short}
 use Rattle.dayfile.specs.declared.Day.{Day}
 use Rattle.dayfile.specs.Day.{mostCranes, mostCalls, dayStarts, dayRequests, DayArrays, dayRefusal}
 use Rattle.dayfile.proofs.Limits.{Tested, day-tested, enough-starts, length-starts, length-requests}
-use Rattle.workfunction.specs.Choice.{moveSum, rearrangementSum}
+use Rattle.workfunction.specs.Choice.{moved, moveSum, rearrangementSum}
 use Rattle.workfunction.specs.Least.{IsLeast}
 use Rattle.workfunction.specs.Movement.{Instance, Serves, LeastTo, LeastOfAll, work, floor}
 use Rattle.workfunction.specs.Plan.{planCost, legCost}
 use Rattle.workfunction.specs.Serving.{Served, servedBy, serve, standsAfter}
-use Rattle.workfunction.proofs.Choice.{choice-least}
-use Rattle.workfunction.proofs.Movement.{work-least, floor-least, instance-first, work-none, floor-none}
+use Rattle.workfunction.proofs.Choice.{choice-below, choice-least}
+use Rattle.workfunction.proofs.Movement.{work-least, floor-least, instance-first, instance-then, work-none, floor-none}
 use Rattle.workfunction.proofs.Position.{distance-self}
 use Rattle.workfunction.proofs.Serving.{serve-least, Bounded, serve-bounded}
 use Rattle.book.specs.declared.Book.{Book}
 use Rattle.book.specs.Book.{startsOf, standsOf, requestsOf, stopsOf, follower, BookArrays, bookRefusal, freshBook}
-use Rattle.dispatch.specs.Serving.{servingRefusal, unserved, figuresOf, costsOf, nth, servedDay}
+use Rattle.dispatch.specs.Commit.{commitRefusal, tidied, bookAfter, leastAfter, commitOf, Next}
+use Rattle.dispatch.specs.Costs.{costsOf}
+use Rattle.dispatch.specs.Quote.{quoteRefusal, unserved, figuresOf, quoteOf}
+use Rattle.dispatch.specs.ServedDay.{nth, servedDay}
+use Rattle.dispatch.proofs.Added.{CallAdded, next-arrays, next-added}
+use Rattle.dispatch.proofs.Called.{Called, quote-called, commit-called, called-commit}
 use Rattle.book.proofs.FreshBook.{fresh-sound}
-use Rattle.book.proofs.Sound.{placed, Sound, book-sound, sound-metric, sound-instance, sound-standing, sound-work}
+use Rattle.book.proofs.Sound.{placed, stands-long, Sound, book-sound, sound-fits, sound-metric, sound-instance, sound-standing, sound-work}
 
 -- ---- a book
 
@@ -58,16 +61,80 @@ module _ {book : Book} (arrays : BookArrays book) (n : ℕ) (t : Table) where
     pub book-floor : LeastOfAll (metresOf t) n (startsOf book) (requestsOf book) (costsOf book n t .floor)
     book-floor = rw floor-is (floor-least (metresOf t) (sound-instance arrays rules))
 
-  -- "No rearrangement with a crane at the next call beats the single move chosen", whose sum is the least after it and the drive
-  pub call-least : (r : ℕ) → servingRefusal book n t r ≡ 0
-      → IsLeast (Serves n (length (startsOf book)) r) (rearrangementSum (metresOf t) n (startsOf book) (requestsOf book) (standsOf book) r)
-      (figuresOf book n t r .least + figuresOf book n t r .metres)
-  unfolding servedBy moveSum
-  call-least r accepted =
-      let tested = then-zero (bookRefusal book n t) _ accepted in
-      let s : Sound book n t = book-sound (tested .0) in
-      let asked = ltb-true r n (first-of (ltb r n) 4 _ (tested .1) .0) in
-      choice-least (sound-metric s) (sound-instance arrays s) (sound-standing arrays s) asked
+  -- ---- a call quoted
+
+  module _ (r : ℕ) (accepted : quoteRefusal book n t r ≡ 0) where
+    called : Called book n t r
+    called = quote-called accepted
+
+    pub quote-is : quoteOf book n t r ≡ record { number = 0; figures = figuresOf book n t r }
+    unfolding quoteOf
+    quote-is = rw accepted
+
+    -- the crane quoted is one of the cranes
+    pub quote-below : quoteOf book n t r .figures .crane < book .cranes
+    unfolding servedBy
+    quote-below =
+        let s = called .sound in
+        let below = choice-below (sound-metric s) (sound-instance arrays s) (sound-standing arrays s) (called .on) in
+        rw quote-is (rw (stands-long (sound-fits arrays s)) at below)
+
+    -- "No rearrangement with a crane at the next call beats the single move chosen": its sum is the least that is quoted and the drive
+    pub no-better-rearrangement : IsLeast (Serves n (length (startsOf book)) r)
+        (rearrangementSum (metresOf t) n (startsOf book) (requestsOf book) (standsOf book) r)
+        (quoteOf book n t r .figures .least + quoteOf book n t r .figures .metres)
+    unfolding servedBy moveSum
+    no-better-rearrangement =
+        let s = called .sound in
+        rw quote-is (choice-least (sound-metric s) (sound-instance arrays s) (sound-standing arrays s) (called .on))
+
+    -- a commit of the crane quoted is accepted, and has the least that was quoted
+    pub quote-committed : (plan : List ℕ) (weights : List ℤ) → let c = commitOf book n t r (quoteOf book n t r .figures .crane) plan weights in
+        (c .number ≡ 0) × (c .least ≡ quoteOf book n t r .figures .least)
+    unfolding commitOf servedBy
+    quote-committed plan weights = rw (called-commit called quote-below) (refl, rw quote-is)
+
+  -- ---- a crane committed, the quoted one or another
+
+  module _ (r s : ℕ) (accepted : commitRefusal book n t r s ≡ 0) (plan : List ℕ) (weights : List ℤ) where
+    -- the book after it
+    abbrev next : Book
+    next = commitOf book n t r s plan weights .book
+
+    commit-least-is : commitOf book n t r s plan weights .least ≡ leastAfter book n t r s
+    unfolding commitOf
+    commit-least-is = rw accepted
+
+    next-is : commitOf book n t r s plan weights .book ≡ bookAfter (tidied book) s r plan weights
+    unfolding commitOf
+    next-is = rw accepted
+
+    -- its cranes are the book's, with crane s at r, which is the last call
+    pub commit-added : CallAdded book s r next
+    commit-added = let c = commit-called accepted in rw next-is (next-added arrays (c .0) (c .1) plan weights)
+
+    pub commit-arrays : BookArrays next
+    commit-arrays = let c = commit-called accepted in rw next-is (next-arrays arrays (c .0) (c .1) plan weights)
+
+    -- some movement that ends at the stands so reached costs the least that is told, and every other costs at least as much
+    pub commit-least : LeastTo (metresOf t) n (startsOf book) (requestsOf book ++ (r ∷ [])) (moved (standsOf book) r s)
+        (commitOf book n t r s plan weights .least)
+    commit-least =
+        let c = commit-called accepted .0 in
+        rw commit-least-is (work-least (metresOf t) (instance-then (sound-instance arrays (c .sound)) (c .on)) (moved (standsOf book) r s))
+
+    module _ (sound : Next next n t) where
+      -- the costs of the next book have that least
+      pub commit-costs : costsOf next n t .least ≡ commitOf book n t r s plan weights .least
+      unfolding costsOf
+      commit-costs = rw (sound .sound, commit-added .starts, commit-added .requests, commit-added .stands) (sym commit-least-is)
+
+      -- and so has the plan that it keeps
+      pub commit-kept : planCost (stopsOf next) (legCost (metresOf t) (startsOf next) (requestsOf next) (standsOf next)) (follower (next .plan))
+          ≡ commitOf book n t r s plan weights .least
+      commit-kept =
+          sound-work commit-arrays n t (sound .sound)
+          ∙ rw (commit-added .starts, commit-added .requests, commit-added .stands) (sym commit-least-is)
 
 -- ---- a served day
 

@@ -8,21 +8,23 @@ use lib.IntN.{ℤ}
 use lib.ListN.{length, getD, set, drop}
 use Rattle.base.specs.Lists.{upTo}
 use Rattle.base.specs.Metric.{Metric}
-use Rattle.road.specs.Table.{mostMetres}
+use Rattle.road.specs.Table.{Table, mostMetres, metresOf}
 use Rattle.dayfile.specs.Day.{mostCranes, mostCalls}
-use Rattle.workfunction.specs.Choice.{preferred, moved, choice}
+use Rattle.workfunction.specs.Choice.{preferred, moved, drive, choice}
 use Rattle.workfunction.specs.Lists.{sumBelow}
-use Rattle.workfunction.specs.Movement.{Instance}
+use Rattle.workfunction.specs.Movement.{Instance, work}
 use Rattle.workfunction.specs.NetCost.{Flipped}
-use Rattle.workfunction.specs.Plan.{planRule, stops, legCost}
+use Rattle.workfunction.specs.Plan.{planRule, planCost, stops, legCost}
 use Rattle.workfunction.specs.Position.{Position}
 use Rattle.workfunction.specs.Serving.{Served, servedBy}
-use Rattle.book.specs.Book.{mostStops, follower, weight}
+use Rattle.book.specs.declared.Book.{Book}
+use Rattle.book.specs.Book.{mostStops, startsOf, standsOf, requestsOf, stopsOf, follower, weight}
 use Rattle.dispatch.specs.declared.insert.Pick.{Pick}
 use Rattle.dispatch.specs.declared.insert.Pick.the-variants.{Least, End}
 use Rattle.dispatch.specs.Legs.{legAt, LegTable}
 use Rattle.dispatch.specs.Search.{at, netBase, netOf, Sized, Certified, Witnessed, Totalled, Searched, Reweighed}
-use Rattle.dispatch.specs.Serving.{nth}
+use Rattle.dispatch.specs.Quote.{quoteRefusal}
+use Rattle.dispatch.specs.ServedDay.{nth}
 
 -- of each end below k: the stop that it follows, and what it costs to free it
 pub record Freed (k N : ℕ) (f net before netEnd : ℕ → ℕ) : Type 0 where
@@ -174,6 +176,26 @@ pub record CallServed (read : ℕ → ℕ → ℕ) (starts calls : List ℕ) (r 
   pub answered : (n : ℕ) (d : ℕ → ℕ → ℕ) → Roads n d read → Kept n d starts calls stands plan weights costs → r < n
       → Answered n d starts calls stands r pick told stands' plan' weights' costs'
   pub unmoved : Unmoved (stops starts calls) plan weights plan' weights'
+
+-- of each crane what a net cost and the way from the new call tell: w with the call as the last, where that crane goes to it, and its
+-- drive; `present` is the cost of the kept plan
+pub record Netted (n : ℕ) (d : ℕ → ℕ → ℕ) (starts calls stands : List ℕ) (r present : ℕ) (netEnd : ℕ → ℕ) (c : ℕ → ℕ → ℕ) : Type 0 where
+  pub works : (e : ℕ) → e < length starts → work d n starts (calls ++ (r ∷ [])) (moved stands r e) + netBase ≡ present + netEnd e
+  pub ways : (e : ℕ) → e < length starts → c (stops starts calls) e ≡ drive d stands r e
+
+-- what the net costs of a book's cranes are given: a call that may be quoted, and room for them
+pub record QuoteGiven (book : Book) (t : Table) (r : ℕ) (nets costs : List ℕ) : Type 0 where
+  pub places : ℕ
+  pub accepted : quoteRefusal book places t r ≡ 0
+  pub netted : mostCranes ≤ length nets
+  pub costed : mostStops * mostStops ≤ length costs
+
+-- the net costs of a book's cranes, and the legs with the call
+pub record BookNetted (book : Book) (n : ℕ) (t : Table) (r : ℕ) (nets costs : List ℕ) : Type 0 where
+  pub netted : Netted n (metresOf t) (startsOf book) (requestsOf book) (standsOf book) r
+      (planCost (stopsOf book) (legAt costs) (follower (book .plan))) (at nets) (legAt costs)
+  pub most : planCost (stopsOf book) (legAt costs) (follower (book .plan)) ≤ mostStops * mostMetres
+  pub low : (e : ℕ) → e < book .cranes → at nets e ≤ netBase + mostMetres
 
 -- m calls served: the figures of each in its array, whose rest is as it was, and the sum of the drives
 pub record DayAnswered (m : ℕ) (all : List Served) (cranes metres leasts cranes' metres' leasts' : List ℕ) (driven : ℕ) : Type 0 where

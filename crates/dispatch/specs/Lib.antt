@@ -1,4 +1,8 @@
+pub mod Quote
+pub mod Commit
+pub mod Costs
+pub mod ServedDay
+pub mod InTurn
 pub mod Legs
 pub mod Search
-pub mod Serving
 pub mod Insertion

@@ -11,7 +11,7 @@ ghost use mathlib.Core.Path.{_≡_};
 ghost use Rattle.base.specs.Numbers.{numberOf};
 ghost use Rattle.dayfile.specs.Day.{dayRefusal};
 ghost use Rattle.book.specs.Book.{freshBook};
-ghost use Rattle.dispatch.specs.Serving.{dayFigures, noFigures, servedDay};
+ghost use Rattle.dispatch.specs.ServedDay.{dayFigures, noFigures, servedDay};
 
 // A day that is refused.
 pub(crate) fn refused(verdict: Verdict) -> ServedDay

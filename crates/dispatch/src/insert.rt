@@ -19,7 +19,7 @@ pub(crate) enum Pick {
 
 // The search for the net costs of the call of the number `new`, which is followed by itself for the moment; and of each end the
 // stop that it follows and the net cost of freeing it.
-fn find(
+pub(crate) fn find(
     cranes: usize,
     new: usize,
     costs: &[u32],

@@ -1,7 +1,8 @@
-// What is answered of a book and of a day: the serving of a call, the two least costs, the served day. Stands on `base`, `road`,
-// `dayfile`, `workfunction` and `book`.
+// What is answered of a book and of a day: the quote of a call, the commit of a crane, the two least costs, the served day.
+// Stands on `base`, `road`, `dayfile`, `workfunction` and `book`.
 mod call;
 mod choice;
+mod commits;
 mod cost;
 mod day;
 mod flip;
@@ -9,6 +10,7 @@ mod floor;
 mod insert;
 mod legs;
 mod plan;
+mod quotes;
 mod search;
 mod serve;
 mod tidy;
@@ -19,14 +21,24 @@ use book::Book;
 use dayfile::Day;
 use road::Table;
 ghost use mathlib.Core.Path.{_≡_};
-ghost use Rattle.dispatch.specs.Serving.{servingRefusal, outcome, servedOf, Next, twoCosts, costsOf, dayFigures, servedDay};
+ghost use Rattle.dispatch.specs.Commit.{commitRefusal, committed, commitOf, Next};
+ghost use Rattle.dispatch.specs.Costs.{twoCosts, costsOf};
+ghost use Rattle.dispatch.specs.Quote.{quoted, quoteOf};
+ghost use Rattle.dispatch.specs.ServedDay.{dayFigures, servedDay};
 
-// What became of a call: the crane sent, the metres that it drives, the least cost after it and the new book; or the refusal,
-// zeros, and the book as it was given.
-pub struct Serving {
+// The price of a call: the crane that would be sent, the metres that it would drive and the least cost after it; or the refusal
+// and zeros.
+pub struct Quote {
     pub verdict: Verdict,
     pub crane: usize,
     pub metres: u32,
+    pub least: u64,
+}
+
+// What became of a crane that was to be sent to a call: the least cost after it and the new book; or the refusal, 0, and the
+// book as it was given.
+pub struct Commit {
+    pub verdict: Verdict,
     pub least: u64,
     pub book: Book,
 }
@@ -54,21 +66,28 @@ pub struct ServedDay {
 pub struct Dispatch {}
 
 impl Dispatch {
-    // Serves a call at a place: the book's test, then 5 for the place, then 7 for a full book. The new book's plan and weights
-    // are the only part of the result that document 01 leaves open: of them it holds that the book is sound and has 0 past its
-    // counts. All else is one equation, for every input.
-    pub fn serve(book: Book, places: usize, table: Table, place: u16) -> Serving
-        ensures { λ r. ⌜ (outcome r ≡ servedOf book places table place (r .book .plan) (r .book .weights)) × (servingRefusal book places table place ≡ 0 → Next (r .book) places table) ⌝ }
+    // The price of a call at a place: the book's test, then 5 for the place, then 7 for a full book.
+    pub fn quote(book: Book, places: usize, table: Table, place: u16) -> Quote
+        ensures { λ r. ⌜ quoted r ≡ quoteOf book places table place ⌝ }
     {
-        let tested = book.test(places, table);
-        let Verdict::Accepted = tested else {
-            return call::refused(tested, book);
+        let verdict = quotes::test(book, places, table, place);
+        let Verdict::Accepted = verdict else {
+            return quotes::refused(verdict);
         };
-        let asked = call::test(places, book.calls, place);
-        let Verdict::Accepted = asked else {
-            return call::refused(asked, book);
+        quotes::accepted(book, &table, place)
+    }
+
+    // Sends a crane, the quoted one or another, to a call at a place: the book's test, then 5 for the place, then 12 for the
+    // crane, then 7 for a full book. The new book's plan and weights are the only part of the result that document 01 leaves
+    // open: of them it holds that the book is sound and has 0 past its counts. All else is one equation, for every input.
+    pub fn commit(book: Book, places: usize, table: Table, place: u16, crane: usize) -> Commit
+        ensures { λ r. ⌜ (committed r ≡ commitOf book places table place crane (r .book .plan) (r .book .weights)) × (commitRefusal book places table place crane ≡ 0 → Next (r .book) places table) ⌝ }
+    {
+        let verdict = commits::test(book, places, table, place, crane);
+        let Verdict::Accepted = verdict else {
+            return commits::refused(verdict, book);
         };
-        call::served(book, &table, place)
+        commits::accepted(book, &table, place, crane)
     }
 
     // The two costs of a book: the least cost of all movements that end at the stands, and of all movements; the book's test.

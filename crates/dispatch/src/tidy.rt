@@ -7,7 +7,7 @@ ghost use lib.ListN.{length, getD};
 ghost use Rattle.base.specs.Lists.{padded};
 ghost use Rattle.dayfile.specs.Day.{mostCranes, mostCalls};
 ghost use Rattle.book.specs.Book.{weight};
-ghost use Rattle.dispatch.specs.Serving.{tidied};
+ghost use Rattle.dispatch.specs.Commit.{tidied};
 
 // 0 from an index on.
 fn clear(from: usize, list: &mut [u16])

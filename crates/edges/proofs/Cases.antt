@@ -19,7 +19,10 @@ use Rattle.workfunction.specs.Choice.{narrowed, preferred, drive, moveSum, choi
 use Rattle.workfunction.specs.Serving.{servedBy, serve}
 use Rattle.workfunction.specs.Plan.{mayFollow, follows, followersRule, onceRule, planRule, slackRule, vouchAt, vouchRule, place, legCost}
 use Rattle.book.specs.Book.{weightRule, bookRefusal, freshBook, freshOf}
-use Rattle.dispatch.specs.Serving.{servedOf, costsOf, servedDay}
+use Rattle.dispatch.specs.Commit.{tidied, bookAfter, commitOf}
+use Rattle.dispatch.specs.Costs.{costsOf}
+use Rattle.dispatch.specs.Quote.{quoteOf}
+use Rattle.dispatch.specs.ServedDay.{servedDay}
 use Rattle.report.specs.Text.{callLine, lastLine, callLines, dayText}
 use Rattle.sheet.specs.Row.{aligned, rowBytes, valueOf, readRow}
 use Rattle.sheet.specs.Sheet.{sheetRows}
@@ -27,5 +30,5 @@ use Rattle.report.specs.Report.{figuresText, sheetText, printOf, sheetPrintOf}
 use Rattle.edges.specs.Cases.{cases, same, agrees, allAgree}
 
 pub cases-agree : allAgree cases ≡ true
-unfolding cases same agrees allAgree upTo within allBelow legRule decode records countsRefusal placedRefusal dayRefusal dayOf tested readFile legCount between legRow legTable afterLeg after lengthRefusal bareRefusal formRefusal legRefusal stopRefusal craneRefusal callRefusal recordRefusal endRefusal scan flatMap headD minimum insertions permutations sumBelow filter leastBy sections positions pairing distance contains movements cost work floor narrowed preferred drive moveSum choice servedBy serve mayFollow follows followersRule onceRule planRule slackRule vouchAt vouchRule place legCost weightRule bookRefusal freshBook freshOf servedOf costsOf servedDay upToDigits decimal callLine lastLine callLines dayText figuresText sheetText printOf sheetPrintOf splice outputOf aligned rowBytes valueOf readRow sheetRows
+unfolding cases same agrees allAgree upTo within allBelow legRule decode records countsRefusal placedRefusal dayRefusal dayOf tested readFile legCount between legRow legTable afterLeg after lengthRefusal bareRefusal formRefusal legRefusal stopRefusal craneRefusal callRefusal recordRefusal endRefusal scan flatMap headD minimum insertions permutations sumBelow filter leastBy sections positions pairing distance contains movements cost work floor narrowed preferred drive moveSum choice servedBy serve mayFollow follows followersRule onceRule planRule slackRule vouchAt vouchRule place legCost weightRule bookRefusal freshBook freshOf quoteOf tidied bookAfter commitOf costsOf servedDay upToDigits decimal callLine lastLine callLines dayText figuresText sheetText printOf sheetPrintOf splice outputOf aligned rowBytes valueOf readRow sheetRows
 cases-agree = refl

@@ -3,6 +3,7 @@ use Prim.Native.Nat.{ℕ, _-_}
 use mathlib.Core.Bool.{Bool, true, false, _&&_}
 use mathlib.Core.List.{List, [], _∷_, _++_, map, flatMap}
 use lib.Dec.{eqb}
+use lib.IntN.{pos, negℤ}
 use lib.ListN.{length, replicate}
 use Rattle.base.specs.Lists.{upTo}
 use Rattle.road.specs.Table.{Table, mostPlaces, metresOf, tableRefusal}
@@ -10,9 +11,11 @@ use Rattle.dayfile.specs.Day.{mostCranes, mostCalls}
 use Rattle.dayfile.specs.declared.Day.{Day}
 use Rattle.dayfile.specs.File.{readFile, Output}
 use Rattle.workfunction.specs.Choice.{moveSum}
-use Rattle.book.specs.Book.{startsOf, standsOf, requestsOf, freshOf}
+use Rattle.book.specs.Book.{mostStops, startsOf, standsOf, requestsOf, freshOf}
 use Rattle.book.specs.declared.Book.{Book}
-use Rattle.dispatch.specs.Serving.{Outcome, servedOf, TwoCosts, costsOf}
+use Rattle.dispatch.specs.Commit.{Committed, commitOf}
+use Rattle.dispatch.specs.Costs.{TwoCosts, costsOf}
+use Rattle.dispatch.specs.Quote.{Quoted, quoteOf}
 use Rattle.sheet.specs.declared.row.Row.{Row}
 use Rattle.sheet.specs.Row.{rowBytes}
 use Rattle.sheet.specs.Sheet.{sheetOf, readSheet}
@@ -25,8 +28,12 @@ pub data Case : Type 0 where
   file : List ℕ → ℕ → ℕ → Case
   -- the fresh book of a road table and of starts: its least and its floor
   fresh : List (List ℕ) → List ℕ → ℕ → ℕ → Case
-  -- a call to that book, at a place: the sum of each crane's move; then the crane, the metres and the least returned
-  served : List (List ℕ) → List ℕ → ℕ → List ℕ → ℕ → ℕ → ℕ → Case
+  -- a road table, a book and the place of a call: the sum of each crane's move
+  sums : List (List ℕ) → Book → ℕ → List ℕ → Case
+  -- the number, the crane, the metres and the least that are quoted
+  quoted : List (List ℕ) → Book → ℕ → ℕ → ℕ → ℕ → ℕ → Case
+  -- a crane beside them: the number and the least of its commit, and of the book handed back the stands and the calls
+  committed : List (List ℕ) → Book → ℕ → ℕ → ℕ → ℕ → List ℕ → List ℕ → Case
   -- the bytes of a day file: all bytes of the print
   print : List ℕ → List ℕ → Case
   -- the bytes of a day file: all bytes of its sheet
@@ -89,6 +96,36 @@ sheetA =
     --   2  1  1      15        15
     32 ∷ 32 ∷ 50 ∷ 32 ∷ 32 ∷ 49 ∷ 32 ∷ 32 ∷ 49 ∷ 32 ∷ 32 ∷ 32 ∷ 32 ∷ 32 ∷ 32 ∷ 49 ∷ 53 ∷ 32 ∷ 32 ∷ 32 ∷ 32 ∷ 32 ∷ 32 ∷ 32 ∷ 32 ∷ 49 ∷ 53 ∷ 10 ∷ []
 
+-- the array of n entries that begins with l, and z past it
+abbrev array : {A : Type 0} → ℕ → A → List A → List A
+array n z l = l ++ replicate (n - length l) z
+
+-- the road table, by the rows of its places
+abbrev roads : List (List ℕ) → Table
+roads rows = array mostPlaces (replicate mostPlaces 0) (map (array mostPlaces 0) rows)
+
+-- the day of such a table, starts and calls
+abbrev dayOf : List (List ℕ) → List ℕ → List ℕ → Day
+dayOf rows starts calls =
+    record { places = length rows; cranes = length starts; calls = length calls; starts = array mostCranes 0 starts; requests = array mostCalls 0 calls }
+
+-- the book that is opened for a day without calls
+abbrev opened : List (List ℕ) → List ℕ → Book
+opened rows starts = freshOf (dayOf rows starts []) (roads rows) .book
+
+-- case A's book before its call 2: crane 0 went to the calls 1 and 0, and stands at its start again
+abbrev bookA : Book
+bookA =
+    record {
+      cranes = 2;
+      calls = 2;
+      starts = array mostCranes 0 (0 ∷ 2 ∷ []);
+      stands = array mostCranes 0 (0 ∷ 2 ∷ []);
+      requests = array mostCalls 0 (1 ∷ 0 ∷ []);
+      plan = array mostStops 0 (2 ∷ 1 ∷ 3 ∷ 0 ∷ []);
+      weights = array mostStops (pos 0) (negℤ (pos 10) ∷ negℤ (pos 5) ∷ pos 0 ∷ negℤ (pos 10) ∷ []);
+    }
+
 unfoldable pub cases : List Case
 cases =
     -- "Case A, marked P"
@@ -109,15 +146,29 @@ cases =
     row 0 0 0 0 0
     (32 ∷ 32 ∷ 48 ∷ 32 ∷ 32 ∷ 48 ∷ 32 ∷ 32 ∷ 48 ∷ 32 ∷ 32 ∷ 32 ∷ 32 ∷ 32 ∷ 32 ∷ 32 ∷ 48 ∷ 32 ∷ 32 ∷ 32 ∷ 32 ∷ 32 ∷ 32 ∷ 32 ∷ 32 ∷ 32 ∷ 48 ∷ 10 ∷ []) ∷
     -- "one place, one crane, one call at 0: crane 0, metres 0, least 0"
-    served one (0 ∷ []) 0 (0 ∷ []) 0 0 0 ∷
+    sums one (opened one (0 ∷ [])) 0 (0 ∷ []) ∷
+    quoted one (opened one (0 ∷ [])) 0 0 0 0 0 ∷
     -- "legs 10, 20, 10, cranes at 0 and 2, call 1: both give 20; crane 0"
-    served (three 10 20 10) (0 ∷ 2 ∷ []) 1 (20 ∷ 20 ∷ []) 0 10 10 ∷
+    sums (three 10 20 10) (opened (three 10 20 10) (0 ∷ 2 ∷ [])) 1 (20 ∷ 20 ∷ []) ∷
+    quoted (three 10 20 10) (opened (three 10 20 10) (0 ∷ 2 ∷ [])) 1 0 0 10 10 ∷
     -- "two cranes at 0, call at 1 by a leg of 7: crane 0, metres 7"
-    served (pair 7) (0 ∷ 0 ∷ []) 1 (14 ∷ 14 ∷ []) 0 7 7 ∷
+    sums (pair 7) (opened (pair 7) (0 ∷ 0 ∷ [])) 1 (14 ∷ 14 ∷ []) ∷
+    quoted (pair 7) (opened (pair 7) (0 ∷ 0 ∷ [])) 1 0 0 7 7 ∷
     -- paper 1: places are told apart by number, so of equal sums and equal drives of 0 the lower crane goes, though the other
     -- stands at the very place; with crane 0 elsewhere it is crane 1
-    served (three 0 5 5) (1 ∷ 0 ∷ []) 0 (0 ∷ 0 ∷ []) 0 0 0 ∷
-    served (three 0 5 5) (2 ∷ 1 ∷ []) 0 (10 ∷ 0 ∷ []) 1 0 0 ∷
+    sums (three 0 5 5) (opened (three 0 5 5) (1 ∷ 0 ∷ [])) 0 (0 ∷ 0 ∷ []) ∷
+    quoted (three 0 5 5) (opened (three 0 5 5) (1 ∷ 0 ∷ [])) 0 0 0 0 0 ∷
+    sums (three 0 5 5) (opened (three 0 5 5) (2 ∷ 1 ∷ [])) 0 (10 ∷ 0 ∷ []) ∷
+    quoted (three 0 5 5) (opened (three 0 5 5) (2 ∷ 1 ∷ [])) 0 0 1 0 0 ∷
+    -- paper 3: case A before its call 2 is quoted for crane 1 by 15 metres, a least of 15; each crane may be committed, there are two
+    -- of them, and the place is tested before the crane; a place past the table is not quoted
+    sums (three 10 20 15) bookA 1 (40 ∷ 30 ∷ []) ∷
+    quoted (three 10 20 15) bookA 1 0 1 15 15 ∷
+    quoted (three 10 20 15) bookA 3 5 0 0 0 ∷
+    committed (three 10 20 15) bookA 1 0 0 30 (1 ∷ 2 ∷ []) (1 ∷ 0 ∷ 1 ∷ []) ∷
+    committed (three 10 20 15) bookA 1 1 0 15 (0 ∷ 1 ∷ []) (1 ∷ 0 ∷ 1 ∷ []) ∷
+    committed (three 10 20 15) bookA 1 2 12 0 (0 ∷ 2 ∷ []) (1 ∷ 0 ∷ []) ∷
+    committed (three 10 20 15) bookA 3 2 5 0 (0 ∷ 2 ∷ []) (1 ∷ 0 ∷ []) ∷
     -- "a fresh book: least 0, floor 0": those above, and case A's
     fresh one (0 ∷ []) 0 0 ∷
     fresh (three 10 20 10) (0 ∷ 2 ∷ []) 0 0 ∷
@@ -149,26 +200,9 @@ cases =
     file [] 6 0 ∷
     []
 
--- the array of n entries that begins with l, and z past it
-abbrev array : {A : Type 0} → ℕ → A → List A → List A
-array n z l = l ++ replicate (n - length l) z
-
--- the road table, by the rows of its places
-abbrev roads : List (List ℕ) → Table
-roads rows = array mostPlaces (replicate mostPlaces 0) (map (array mostPlaces 0) rows)
-
--- the day of such a table, starts and calls
-abbrev dayOf : List (List ℕ) → List ℕ → List ℕ → Day
-dayOf rows starts calls =
-    record { places = length rows; cranes = length starts; calls = length calls; starts = array mostCranes 0 starts; requests = array mostCalls 0 calls }
-
--- the book that is opened for a day without calls
-abbrev opened : List (List ℕ) → List ℕ → Book
-opened rows starts = freshOf (dayOf rows starts []) (roads rows) .book
-
 -- w(C(s)) + d(s,r) of each crane s
-abbrev sums : List (List ℕ) → Book → ℕ → List ℕ
-sums rows book r =
+abbrev moveSums : List (List ℕ) → Book → ℕ → List ℕ
+moveSums rows book r =
     upTo (book .cranes) (moveSum (metresOf (roads rows)) (length rows) (startsOf book) (requestsOf book) (standsOf book) r)
 
 -- two lists have the same entries
@@ -182,9 +216,14 @@ same (a ∷ l) (b ∷ m) = eqb a b && same l m
 abbrev costs : ℕ → ℕ → TwoCosts → Bool
 costs w f c = eqb (c .number) 0 && eqb (c .least) w && eqb (c .floor) f
 
--- these figures, of an accepted call
-abbrev figures : ℕ → ℕ → ℕ → Outcome → Bool
-figures s m w o = eqb (o .number) 0 && eqb (o .figures .crane) s && eqb (o .figures .metres) m && eqb (o .figures .least) w
+-- this number with these figures
+abbrev figures : ℕ → ℕ → ℕ → ℕ → Quoted → Bool
+figures n s m w q = eqb (q .number) n && eqb (q .figures .crane) s && eqb (q .figures .metres) m && eqb (q .figures .least) w
+
+-- this number with this least, and a book with these stands and calls
+abbrev handed : ℕ → ℕ → List ℕ → List ℕ → Committed → Bool
+handed n w stands calls c =
+    eqb (c .number) n && eqb (c .least) w && same (standsOf (c .book)) stands && same (requestsOf (c .book)) calls
 
 -- what a buffer holds after, with the number and the length
 abbrev output : ℕ → ℕ → List ℕ → Output → Bool
@@ -194,13 +233,14 @@ output n k out o = eqb (o .number) n && eqb (o .length) k && same (o .buffer) ou
 abbrev five : Row → List ℕ
 five r = r .call ∷ r .place ∷ r .crane ∷ r .metres ∷ r .least ∷ []
 
--- The figures of a call do not depend on the plan and the weights of the book after it, which are left out.
+-- What is told of a commit does not depend on the plan and the weights of the book after it, which are left out.
 unfoldable pub agrees : Case → Bool
 agrees (table n rows r) = eqb (tableRefusal n (roads rows)) r
 agrees (file bs n i) = eqb (readFile bs .number) n && eqb (readFile bs .index) i
 agrees (fresh rows starts w f) = costs w f (costsOf (opened rows starts) (length rows) (roads rows))
-agrees (served rows starts r l s m w) =
-    same (sums rows (opened rows starts) r) l && figures s m w (servedOf (opened rows starts) (length rows) (roads rows) r [] [])
+agrees (sums rows book r l) = same (moveSums rows book r) l
+agrees (quoted rows book r n s m w) = figures n s m w (quoteOf book (length rows) (roads rows) r)
+agrees (committed rows book r c n w stands calls) = handed n w stands calls (commitOf book (length rows) (roads rows) r c [] [])
 agrees (print bs out) = same (printOf bs) out
 agrees (posted bs out) = same (sheetPrintOf bs) out
 agrees (sheet rows starts calls before n k out) = output n k out (sheetOf (dayOf rows starts calls) (roads rows) before)

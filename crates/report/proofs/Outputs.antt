@@ -19,7 +19,7 @@ use Rattle.dayfile.specs.File.{Answer, readFile, readTable, Output, outputBy}
 use Rattle.dayfile.proofs.Limits.{day-tested}
 use Rattle.dayfile.proofs.Outputs.{output-decided}
 use Rattle.dayfile.proofs.RoundTrip.{file-accepted, read-arrays}
-use Rattle.dispatch.specs.Serving.{DayFigures, servedDay}
+use Rattle.dispatch.specs.ServedDay.{DayFigures, servedDay}
 use Rattle.sheet.specs.Sheet.{sheetBytes, sheetOf}
 use Rattle.sheet.proofs.Promise.{sheet-length}
 use Rattle.report.specs.declared.Printed.{Printed}

@@ -13,7 +13,8 @@ use Rattle.dayfile.proofs.RoundTrip.{file-accepted, read-arrays}
 use Rattle.workfunction.specs.Serving.{Served, serve}
 use Rattle.workfunction.proofs.Serving.{serve-at}
 use Rattle.workfunction.proofs.Sums.{sum-same}
-use Rattle.dispatch.specs.Serving.{nth, unserved, servedDay}
+use Rattle.dispatch.specs.Quote.{unserved}
+use Rattle.dispatch.specs.ServedDay.{nth, servedDay}
 use Rattle.dispatch.proofs.Promise.{day-least, day-floor}
 use Rattle.sheet.specs.Sheet.{rowOf, sheetBytes}
 use Rattle.sheet.proofs.Promise.{sheet-rows, sheet-length, sheet-back}

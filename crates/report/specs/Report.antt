@@ -7,7 +7,7 @@ use Rattle.road.specs.Table.{Table}
 use Rattle.dayfile.specs.declared.Day.{Day}
 use Rattle.dayfile.specs.Day.{dayRefusal}
 use Rattle.dayfile.specs.File.{readFile, readTable}
-use Rattle.dispatch.specs.Serving.{DayFigures, servedDay}
+use Rattle.dispatch.specs.ServedDay.{DayFigures, servedDay}
 use Rattle.sheet.specs.Sheet.{sheetBytes}
 use Rattle.report.specs.declared.Printed.{Printed}
 use Rattle.report.specs.declared.day.Form.{Form}

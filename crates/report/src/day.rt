@@ -7,7 +7,7 @@ use dispatch::Dispatch;
 use road::Table;
 ghost use Prim.Native.Nat.{_≤_};
 ghost use lib.ListN.{length};
-ghost use Rattle.dispatch.specs.Serving.{servedDay};
+ghost use Rattle.dispatch.specs.ServedDay.{servedDay};
 ghost use Rattle.report.specs.Put.{Put};
 ghost use Rattle.report.specs.Report.{figuresText, sheetText, dayIn, fileText};
 

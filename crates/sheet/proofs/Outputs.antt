@@ -9,7 +9,7 @@ use Rattle.road.specs.Table.{Table}
 use Rattle.dayfile.specs.declared.Day.{Day}
 use Rattle.dayfile.specs.Day.{mostCalls, DayArrays, dayRefusal}
 use Rattle.dayfile.proofs.Limits.{day-tested, length-requests}
-use Rattle.dispatch.specs.Serving.{DayFigures, servedDay}
+use Rattle.dispatch.specs.ServedDay.{DayFigures, servedDay}
 use Rattle.sheet.specs.Row.{rowBytes, Fits}
 use Rattle.sheet.specs.Sheet.{rowAt, sheetBytes}
 use Rattle.sheet.proofs.Promise.{served-number, served-all, sheet-rows, values-fit, sheet-length}

@@ -16,7 +16,7 @@ use Rattle.dayfile.specs.File.{bytesWritten}
 use Rattle.dayfile.proofs.Ignored.{same-refusal}
 use Rattle.dayfile.proofs.Limits.{day-tested, stop-below, length-requests}
 use Rattle.dayfile.proofs.Outputs.{output-written, output-accepted, output-bytes}
-use Rattle.dispatch.specs.Serving.{DayFigures, noFigures, servedDay}
+use Rattle.dispatch.specs.ServedDay.{DayFigures, noFigures, servedDay}
 use Rattle.dispatch.proofs.Ignored.{same-day-served}
 use Rattle.dispatch.proofs.Promise.{day-bounded}
 use Rattle.sheet.specs.Row.{rowBytes, Fits, readRow}

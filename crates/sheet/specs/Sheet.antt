@@ -7,7 +7,7 @@ use Rattle.road.specs.Table.{Table}
 use Rattle.dayfile.specs.declared.Day.{Day}
 use Rattle.dayfile.specs.Day.{dayRequests, dayRefusal}
 use Rattle.dayfile.specs.File.{Output, outputOf}
-use Rattle.dispatch.specs.Serving.{servedDay}
+use Rattle.dispatch.specs.ServedDay.{servedDay}
 use Rattle.sheet.specs.declared.row.Row.{Row}
 use Rattle.sheet.specs.Row.{rowBytes, Fits, readRow}
 

@@ -67,7 +67,7 @@ module _ {n : ℕ} {d e : ℕ → ℕ → ℕ} (same : (u v : ℕ) → u < n →
       drive-same s = same (getD stands s 0) r (stand-below stands standing (omega arith) s) asked
 
       -- w with the call as the last, where crane s is sent to it
-      workThen-same : (s : ℕ)
+      pub workThen-same : (s : ℕ)
           → workThen d n starts calls stands r (moved stands r s) ≡ workThen e n starts calls stands r (moved stands r s)
       workThen-same s = work-same (calls ++ (r ∷ [])) (position-set stands s r asked standing)
 

@@ -2,7 +2,7 @@
 -- the stands after it. A call raises the least by the drive to it at the most. Assumes nothing.
 use Prim.Native.Nat.{ℕ, zero, suc, _+_, _*_, _<_, _≤_}
 use mathlib.Core.List.{List, [], _∷_, _++_, append-nil, append-assoc, List·Memᴰ, List·Memᴰ·head, List·Memᴰ·tail}
-use mathlib.Core.Path.{_≡_, refl, _∙_}
+use mathlib.Core.Path.{_≡_, refl, ap, _∙_}
 use lib.ListN.{length, getD, take}
 use native.Mathlib.Nat.{not-suc-le-zero, le-of-suc-le-suc, one-mul, suc-add, suc-mul}
 use native.Mathlib.Omega.{arith}
@@ -36,6 +36,19 @@ module _ (d : ℕ → ℕ → ℕ) (n : ℕ) (starts : List ℕ) (none : Served)
   serve-least calls stands (r ∷ rs) (suc i) h =
       serve-least (calls ++ (r ∷ [])) (moved stands r (choice d n starts calls stands r)) rs i (le-of-suc-le-suc h)
       ∙ rw (append-assoc calls (r ∷ []) (take (suc i) rs))
+
+  pub serve-long : (calls stands rs : List ℕ) → length (serve d n starts calls stands rs) ≡ length rs
+  unfolding serve
+  serve-long calls stands [] = refl
+  serve-long calls stands (r ∷ rs) = ap suc (serve-long (calls ++ (r ∷ [])) (moved stands r (choice d n starts calls stands r)) rs)
+
+  -- the stands once one more call is served
+  pub stands-then : (calls stands rs : List ℕ) (r : ℕ) → standsAfter d n starts calls stands (rs ++ (r ∷ []))
+      ≡ moved (standsAfter d n starts calls stands rs) r (choice d n starts (calls ++ rs) (standsAfter d n starts calls stands rs) r)
+  unfolding standsAfter
+  stands-then calls stands [] r = rw append-nil
+  stands-then calls stands (q ∷ rs) r =
+      stands-then (calls ++ (q ∷ [])) (moved stands q (choice d n starts calls stands q)) rs r ∙ rw (append-assoc calls (q ∷ []) rs)
 
 -- ---- how large the figures become
 

@@ -10,7 +10,7 @@ use borrow.Author.Tests.{eq-eqb, ne-eqb}
 use lib.Dec.{eqb}
 use lib.ListN.{length, getD, set}
 use native.Mathlib.Decide.{ℕ-discrete}
-use native.Mathlib.Nat.{zero-add, add-zero, zero-mul, one-mul, add-mul, le-refl, lt-irrefl, not-suc-le-zero, le-of-suc-le-suc, eq-or-lt-of-le}
+use native.Mathlib.Nat.{zero-add, add-zero, zero-mul, one-mul, suc-mul, add-mul, le-refl, lt-irrefl, not-suc-le-zero, le-of-suc-le-suc, eq-or-lt-of-le}
 use native.Mathlib.Numerals.{add-one}
 use native.Mathlib.Omega.{arith}
 use Rattle.base.specs.Lists.{upTo}
@@ -89,6 +89,15 @@ sum-le zero f g le = zero-le
 sum-le (suc n) f g le =
     let before = sum-le n f g (λ i h. le i (omega arith)) in
     let last = le n (omega arith) in
+    omega arith
+
+pub sum-most : (n m : ℕ) (f : ℕ → ℕ) → ((i : ℕ) → i < n → f i ≤ m) → sumBelow n f ≤ n * m
+unfolding sumBelow
+sum-most zero m f most = zero-le
+sum-most (suc n) m f most =
+    let rest = sum-most n m f (λ i h. most i (omega arith)) in
+    let last = most n (omega arith) in
+    let more = suc-mul n m in
     omega arith
 
 pub sum-plus : (n : ℕ) (f g : ℕ → ℕ) → sumBelow n (λ i. f i + g i) ≡ sumBelow n f + sumBelow n g

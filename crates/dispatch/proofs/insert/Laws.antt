@@ -1,18 +1,21 @@
 -- The plan into which the call N is taken: N is followed by itself for the moment, and below N the plan is as it was, with weights
--- that vouch for it. Assumes nothing.
-use Prim.Native.Nat.{ℕ, _<_}
+-- that vouch for it; and how large the net costs of its ends are. Assumes nothing.
+use Prim.Native.Nat.{ℕ, _+_, _<_, _≤_}
 use mathlib.Core.Bool.{true}
 use mathlib.Core.List.{List}
 use mathlib.Core.Path.{_≡_, refl, sym, _∙_}
 use lib.IntN.{ℤ}
 use lib.ListN.{length, set}
 use lib.Seq.{getD-set-same, getD-set-other}
+use native.Mathlib.Nat.{le-of-lt}
 use native.Mathlib.Omega.{arith}
+use Rattle.road.specs.Table.{mostMetres}
 use Rattle.workfunction.specs.Plan.{planRule}
 use Rattle.workfunction.proofs.Plan.{Plan, plan-facts}
 use Rattle.book.specs.Book.{follower, weight}
+use Rattle.dispatch.specs.Insertion.{Found}
 use Rattle.dispatch.specs.Legs.{legAt}
-use Rattle.dispatch.specs.Search.{Witnessed}
+use Rattle.dispatch.specs.Search.{netBase, Witnessed}
 use Rattle.book.proofs.Ignored.{same-plan}
 use Rattle.book.proofs.Vouching.{same-vouching}
 
@@ -46,3 +49,10 @@ taken-witnessed {k} {N} {plan} {weights} {costs} w =
       };
       short = w .short;
     }
+
+-- no net cost is above the total of its stop
+pub ends-low : {k N : ℕ} {f : ℕ → ℕ} {c : ℕ → ℕ → ℕ} {total parent rank before netEnd : ℕ → ℕ} → Found k N f c total parent rank before netEnd
+    → (e : ℕ) → e < k → netEnd e ≤ netBase + mostMetres
+ends-low {before = before} found e lt =
+    let most = found .searched .totals .most (before e) (le-of-lt (found .freed .stop e lt)) in
+    rw (found .freed .costs e lt) (omega arith)

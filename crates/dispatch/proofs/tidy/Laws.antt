@@ -15,7 +15,7 @@ use Rattle.road.specs.Table.{Table}
 use Rattle.dayfile.specs.Day.{mostCranes, mostCalls}
 use Rattle.book.specs.declared.Book.{Book}
 use Rattle.book.specs.Book.{mostStops, stopsOf, follower, weight, SameBook, bookRefusal}
-use Rattle.dispatch.specs.Serving.{tidied}
+use Rattle.dispatch.specs.Commit.{tidied}
 use Rattle.book.proofs.Ignored.{past-counts-ignored}
 use Rattle.book.proofs.Sound.{Fits}
 

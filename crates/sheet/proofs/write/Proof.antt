@@ -9,7 +9,7 @@ use native.Mathlib.Omega.{arith}
 use Rattle.base.proofs.Numbers.{accepts, refused-number}
 use Rattle.dayfile.specs.Day.{mostCalls, DayArrays, dayRefusal}
 use Rattle.dayfile.proofs.Outputs.{output-refused, output-short, output-written}
-use Rattle.dispatch.specs.Serving.{dayFigures}
+use Rattle.dispatch.specs.ServedDay.{dayFigures}
 use Rattle.sheet.proofs.Outputs.{told-number, few-calls, as-many, rows-fit, rows-are, rows-long}
 use Rattle.sheet.proofs.write.Statement.{statement}
 use Rattle.sheet.proofs.write.Tie as tie

@@ -14,17 +14,8 @@ abbrev μ-loop : tie.MeasureT-loop
 loop-holds : tie.Need-loop-holds Inv-loop μ-loop
 loop-holds c = search needs
 
-drawn-table-requires : tie.Need-drawn-table-requires Inv-loop μ-loop
-drawn-table-requires c κs = search needs
-
-drawn-day-requires : tie.Need-drawn-day-requires Inv-loop μ-loop
-drawn-day-requires c κs = search needs
-
-day-requires : tie.Need-day-requires Inv-loop μ-loop
-day-requires c κs = search needs
-
-counted-requires : tie.Need-counted-requires Inv-loop μ-loop
-counted-requires c κs = search needs
+add-drawn-requires : tie.Need-add-drawn-requires Inv-loop μ-loop
+add-drawn-requires c κs = search needs
 
 add-i : tie.Need-add-i Inv-loop μ-loop
 add-i c = search needs
@@ -41,15 +32,4 @@ returns c = search needs
 pub some-spec : {M : Type 1} → statement M
 some-spec =
     tie.close
-    (tie.spec
-    Inv-loop
-    μ-loop
-    loop-holds
-    drawn-table-requires
-    drawn-day-requires
-    day-requires
-    counted-requires
-    add-i
-    loop-less
-    loop-again
-    returns)
+    (tie.spec Inv-loop μ-loop loop-holds add-drawn-requires add-i loop-less loop-again returns)

@@ -6,28 +6,31 @@ use Rattle.brute.proofs.search.calls.Statement.{statement}
 use Rattle.brute.proofs.search.calls.Tie as tie
 
 abbrev Inv-loop : tie.InvT-loop
-Inv-loop day table size served posted requests sides₀ i₀ sides i = i ≤ 6
+Inv-loop day table size requests sides₀ from₀ sents₀ i₀ sides from sents i = i ≤ 6
 
 abbrev μ-loop : tie.MeasureT-loop
-μ-loop day table size served posted requests sides₀ i₀ sides i = 6 - i
+μ-loop day table size requests sides₀ from₀ sents₀ i₀ sides from sents i = 6 - i
 
 loop-holds : tie.Need-loop-holds Inv-loop μ-loop
 loop-holds c = search needs
 
-mul-place : tie.Need-mul-place Inv-loop μ-loop
-mul-place c = search needs
+mul-call : tie.Need-mul-call Inv-loop μ-loop
+mul-call c = search needs
 
-array-read-place : tie.Need-array-read-place Inv-loop μ-loop
-array-read-place c = search needs
+array-read-call : tie.Need-array-read-call Inv-loop μ-loop
+array-read-call c = search needs
 
 call-requires : tie.Need-call-requires Inv-loop μ-loop
 call-requires c κs = search needs
 
-row-requires : tie.Need-row-requires Inv-loop μ-loop
-row-requires c κs = search needs
+mul-sents : tie.Need-mul-sents Inv-loop μ-loop
+mul-sents c = search needs
 
-line-requires : tie.Need-line-requires Inv-loop μ-loop
-line-requires c κs = search needs
+array-set-from-sents : tie.Need-array-set-from-sents Inv-loop μ-loop
+array-set-from-sents c = search needs
+
+behind-requires : tie.Need-behind-requires Inv-loop μ-loop
+behind-requires c κs = search needs
 
 add-i : tie.Need-add-i Inv-loop μ-loop
 add-i c = search needs
@@ -48,11 +51,12 @@ calls-spec =
     Inv-loop
     μ-loop
     loop-holds
-    mul-place
-    array-read-place
+    mul-call
+    array-read-call
     call-requires
-    row-requires
-    line-requires
+    mul-sents
+    array-set-from-sents
+    behind-requires
     add-i
     loop-less
     loop-again

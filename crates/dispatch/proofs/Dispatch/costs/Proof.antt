@@ -8,7 +8,7 @@ use Rattle.road.specs.Table.{Table, metresOf}
 use Rattle.workfunction.specs.Movement.{work, floor}
 use Rattle.book.specs.declared.Book.{Book}
 use Rattle.book.specs.Book.{startsOf, standsOf, requestsOf, bookRefusal}
-use Rattle.dispatch.specs.Serving.{TwoCosts, costsOf}
+use Rattle.dispatch.specs.Costs.{TwoCosts, costsOf}
 use Rattle.dispatch.proofs.Dispatch.costs.Statement.{statement}
 use Rattle.dispatch.proofs.Dispatch.costs.Tie as tie
 

@@ -10,7 +10,7 @@ use Rattle.dayfile.specs.declared.Day.{Day}
 use Rattle.dayfile.specs.Day.{dayRefusal}
 use Rattle.book.specs.declared.Book.{Book}
 use Rattle.book.specs.Book.{Opened, freshBook, emptyBook, freshOf}
-use Rattle.dispatch.specs.Serving.{noFigures, servedDay}
+use Rattle.dispatch.specs.ServedDay.{noFigures, servedDay}
 use Rattle.dispatch.proofs.Dispatch.serve_day.Statement.{statement}
 use Rattle.dispatch.proofs.Dispatch.serve_day.Tie as tie
 

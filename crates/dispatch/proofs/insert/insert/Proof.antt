@@ -1,6 +1,6 @@
 -- `dispatch::insert::insert` meets its contract: the plan with the new call followed by itself is one that the search can begin from,
 -- and each part finds what it requires in what the parts before it ensure. Assumes nothing.
-use Prim.Native.Nat.{ℕ, _+_, _<_, _≤_}
+use Prim.Native.Nat.{ℕ, _<_}
 use mathlib.Core.List.{List}
 use mathlib.Core.Path.{_≡_, _∙_}
 use borrow.Author.Needs.{needs}
@@ -9,26 +9,18 @@ use lib.ListN.{length, set}
 use lib.Seq.{getD-set-other}
 use native.Mathlib.Nat.{le-of-lt}
 use native.Mathlib.Omega.{arith}
-use Rattle.road.specs.Table.{mostMetres}
 use Rattle.dayfile.specs.Day.{mostCranes}
 use Rattle.workfunction.proofs.Keys.{preferred-below}
 use Rattle.workfunction.proofs.Plan.{Plan}
 use Rattle.book.specs.Book.{follower, weight}
 use Rattle.dispatch.specs.declared.insert.Pick.{Pick}
-use Rattle.dispatch.specs.Insertion.{Freed, leastEnd, picked, Found, CallInserted}
+use Rattle.dispatch.specs.Insertion.{leastEnd, picked, Found, CallInserted}
 use Rattle.dispatch.specs.Legs.{legAt}
-use Rattle.dispatch.specs.Search.{at, netBase, netOf, Totalled, Matched, PlanFlipped, Reweighed}
+use Rattle.dispatch.specs.Search.{at, netOf, Matched, PlanFlipped, Reweighed}
 use Rattle.dispatch.proofs.Insertion.{matched-plan}
-use Rattle.dispatch.proofs.insert.Laws.{taken-self, taken-plan}
+use Rattle.dispatch.proofs.insert.Laws.{taken-self, taken-plan, ends-low}
 use Rattle.dispatch.proofs.insert.insert.Statement.{statement}
 use Rattle.dispatch.proofs.insert.insert.Tie as tie
-
--- no net cost is above its stop's total
-net-most : {k N : ℕ} {f : ℕ → ℕ} {c : ℕ → ℕ → ℕ} {total before netEnd : ℕ → ℕ} → Totalled N f c total
-    → Freed k N f (netOf f c total) before netEnd → (e : ℕ) → e < k → netEnd e ≤ netBase + mostMetres
-net-most {before = before} t freed e lt =
-    let most = t .most (before e) (le-of-lt (freed .stop e lt)) in
-    rw (freed .costs e lt) (omega arith)
 
 -- the call is taken in: `taken` is the plan in which it is followed by itself
 call-inserted : {k N s : ℕ} {pick : Pick} {costs plan taken plan' parents : List ℕ} {weights weights' : List ℤ} {total rank before netEnd : ℕ → ℕ}
@@ -136,7 +128,7 @@ end-requires c κs =
       few = a .pre .witnessed .few;
       netted = search needs;
       costed = a .pre .costsLong;
-      low = net-most (found .searched .totals) (found .freed);
+      low = ends-low found;
     }
 
 slice-aggregate-renew : tie.Need-slice-aggregate-renew

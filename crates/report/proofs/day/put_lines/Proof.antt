@@ -8,7 +8,7 @@ use native.Mathlib.Omega.{arith}
 use Rattle.base.specs.Numbers.{numberOf}
 use Rattle.base.proofs.Numbers.{refused-number}
 use Rattle.dayfile.specs.Day.{mostCalls}
-use Rattle.dispatch.specs.Serving.{DayFigures, dayFigures}
+use Rattle.dispatch.specs.ServedDay.{DayFigures, dayFigures}
 use Rattle.report.proofs.Outputs.{served-calls, day-refused, day-put}
 use Rattle.report.proofs.text.Laws.{calls-most}
 use Rattle.report.proofs.day.put_lines.Statement.{statement}

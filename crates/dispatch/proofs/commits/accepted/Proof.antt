@@ -1,55 +1,36 @@
--- `dispatch::call::served` meets its contract: the book with 0 past its counts is a day under way, and the book after the call is made of
--- what serving it gives. Assumes nothing.
-use Prim.Native.Nat.{ℕ, _*_, _<_, _≤_}
+-- `dispatch::commits::accepted` meets its contract: the book with 0 past its counts is a day under way, and the book after the call is made
+-- of what serving it gives. Assumes nothing.
+use Prim.Native.Nat.{ℕ, _*_, _≤_}
 use mathlib.Core.List.{List}
 use mathlib.Core.Path.{_≡_, refl, sym}
 use borrow.Author.Needs.{needs}
-use borrow.Author.Tests.{ltb-true}
-use lib.Dec.{ltb}
 use lib.ListN.{length}
 use native.Mathlib.Omega.{arith}
-use Rattle.base.proofs.Numbers.{unless-zero, then-zero, first-of}
 use Rattle.road.specs.Table.{Table, metresOf, entry}
-use Rattle.dayfile.specs.Day.{mostCalls}
 use Rattle.book.specs.declared.Book.{Book}
-use Rattle.book.specs.Book.{mostStops, startsOf, standsOf, requestsOf, BookArrays, SameBook, bookRefusal}
+use Rattle.book.specs.Book.{mostStops, startsOf, standsOf, requestsOf, BookArrays, SameBook}
 use Rattle.dispatch.specs.Insertion.{Kept}
 use Rattle.dispatch.specs.Legs.{LegTable}
-use Rattle.dispatch.specs.Serving.{servingRefusal}
-use Rattle.dispatch.proofs.Carried.{sound-kept, told-after, next}
-use Rattle.book.proofs.Sound.{Fits, fit, starts-long, stands-long, requests-long, Sound, book-sound, sound-fits}
+use Rattle.dispatch.specs.Commit.{commitRefusal}
+use Rattle.dispatch.proofs.Called.{Called, commit-called}
+use Rattle.dispatch.proofs.Carried.{sound-kept, committed-after, next}
+use Rattle.book.proofs.Sound.{Fits, fit, starts-long, stands-long, requests-long, book-sound, sound-book, sound-fits}
 use Rattle.dispatch.proofs.Roads.{sound-roads}
 use Rattle.dispatch.proofs.tidy.Laws.{tidy-same, tidy-refusal, tidy-plan, tidy-weights}
-use Rattle.dispatch.proofs.call.served.Statement.{statement}
-use Rattle.dispatch.proofs.call.served.Tie as tie
-
--- what an accepted call says
-record Called (book : Book) (n : ℕ) (t : Table) (r : ℕ) : Type 0 where
-  sound : Sound book n t
-  on : r < n
-  space : book .calls < mostCalls
-
-called : (book : Book) (n : ℕ) (t : Table) (r : ℕ) → servingRefusal book n t r ≡ 0 → Called book n t r
-called book n t r h =
-    let tested = then-zero (bookRefusal book n t) _ h in
-    let asked = first-of (ltb r n) 4 _ (tested .1) in
-    record {
-      sound = book-sound (tested .0);
-      on = ltb-true r n (asked .0);
-      space = ltb-true (book .calls) mostCalls (unless-zero (ltb (book .calls) mostCalls) 6 (asked .1));
-    }
+use Rattle.dispatch.proofs.commits.accepted.Statement.{statement}
+use Rattle.dispatch.proofs.commits.accepted.Tie as tie
 
 -- the table
 abbrev table : tie.Start → Table
 table s = s .args .table .now
 
--- the call is accepted
+-- the commit is accepted
 abbrev Accepted : tie.Start → ℕ → Type 0
-Accepted s n = servingRefusal (s .args .book) n (table s) (s .args .place) ≡ 0
+Accepted s n = commitRefusal (s .args .book) n (table s) (s .args .place) (s .args .crane) ≡ 0
 
 fits : (s : tie.Start) (n : ℕ) → Accepted s n → Fits (s .args .book)
 fits s n h =
-    let k = called _ n (table s) _ h .sound .counts in
+    let k = commit-called h .0 .sound .counts in
     fit (record { starts = search needs; stands = search needs; requests = search needs }) (k .cranes) (k .calls)
 
 -- the book with 0 past its counts
@@ -71,7 +52,12 @@ same t n h = tidy-same _ (t .tidy .ensures) (fits (t .before) n h)
 tested : (t : tie.After-tidy) (n : ℕ) → let s = t .before in Accepted s n → Called (tidy t) n (table s) (s .args .place)
 tested t n h =
     let s = t .before in
-    called (tidy t) n (table s) (s .args .place) (rw (tidy-refusal _ (t .tidy .ensures) (fits s n h) n (table s), same t n h .calls) h)
+    let c = commit-called h .0 in
+    record {
+      sound = book-sound (rw (tidy-refusal _ (t .tidy .ensures) (fits s n h) n (table s)) (sound-book (c .sound)));
+      on = c .on;
+      space = rw (same t n h .calls) (c .space);
+    }
 
 tested-so : (t : tie.After-tidy) → let s = t .before in Called (tidy t) (s .pre .0) (table s) (s .args .place)
 tested-so t = let s = t .before in tested t (s .pre .0) (s .pre .1)
@@ -100,7 +86,7 @@ abbrev at-end : tie.After-costs4 → tie.After-tidy
 at-end c = at-call (c .before .before .before .before .before)
 
 tidy-requires : tie.Need-tidy-requires
-tidy-requires c κs = let k = called _ (c .pre .0) (table c) _ (c .pre .1) .sound .counts in (k .cranes, k .calls)
+tidy-requires c κs = let k = commit-called (c .pre .1) .0 .sound .counts in (k .cranes, k .calls)
 
 zeros-requires : tie.Need-zeros-requires
 zeros-requires c κs = search needs
@@ -152,7 +138,7 @@ serve-call-requires c κs =
       kept = day;
       on = k .on;
       space = rw (requests-long (tidy-fits t)) (k .space);
-      ends = λ e h. h;
+      ends = λ e h. rw (starts-long (tidy-fits t), same t (s .pre .0) (s .pre .1) .cranes) (commit-called (s .pre .1) .1);
     }
 
 mul-requests : tie.Need-mul-requests
@@ -161,8 +147,8 @@ mul-requests c = omega (arith, tested-so (at-end c) .space)
 array-write-requests : tie.Need-array-write-requests
 array-write-requests c = tested-so (at-end c) .space
 
-add-t30 : tie.Need-add-t30
-add-t30 c = omega (arith, tested-so (at-end c) .space)
+add-t31 : tie.Need-add-t31
+add-t31 c = omega (arith, tested-so (at-end c) .space)
 
 returns : tie.Need-returns
 returns c = λ n h.
@@ -170,15 +156,15 @@ returns c = λ n h.
     let k = tested t n h in
     let e = t .tidy .ensures in
     let a = c .before .before .before .before in
-    let f = a .before .before .before .before .before .before .before .before .of-book .ensures in
-    let day = kept t n h (search needs) f in
+    let f = a .before .before .before .before .before .before .before .before in
+    let day = kept t n h (omega (arith, f .of-book .kept)) (f .of-book .ensures) in
     let answered = a .serve-call .ensures .answered n (metresOf (table (t .before))) (sound-roads (k .sound)) day (k .on) in (
-      told-after (arrays t) (k .sound) (k .on) (k .space) answered refl e (same t n h),
+      committed-after (arrays t) (k .sound) (k .on) (k .space) answered refl e (same t n h),
       next (arrays t) (k .sound) (k .on) (k .space) answered (a .serve-call .ensures .unmoved) (tidy-plan _ e) (tidy-weights _ e),
     )
 
-pub served-spec : {M : Type 1} → statement M
-served-spec =
+pub accepted-spec : {M : Type 1} → statement M
+accepted-spec =
     tie.close
     (tie.spec
     tidy-requires
@@ -197,5 +183,5 @@ served-spec =
     serve-call-requires
     mul-requests
     array-write-requests
-    add-t30
+    add-t31
     returns)

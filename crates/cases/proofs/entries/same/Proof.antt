@@ -1,10 +1,10 @@
--- `cases::books::same` is safe: no entry past the last is read.
+-- `cases::entries::same` is safe: no entry past the last is read.
 -- Assumes nothing.
 use Prim.Native.Nat.{_-_, _≤_}
 use borrow.Author.Needs.{needs}
 use Rattle.book.specs.Book.{mostStops}
-use Rattle.cases.proofs.books.same.Statement.{statement}
-use Rattle.cases.proofs.books.same.Tie as tie
+use Rattle.cases.proofs.entries.same.Statement.{statement}
+use Rattle.cases.proofs.entries.same.Tie as tie
 
 abbrev Inv-loop : tie.InvT-loop
 Inv-loop a b same₀ i₀ same i = i ≤ mostStops

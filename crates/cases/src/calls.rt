@@ -1,0 +1,112 @@
+// Calls of case A in memory: its book before the last call, with the quote and commits of one crane and another; and a full book of its
+// places.
+use crate::days;
+use crate::entries;
+use crate::line;
+use crate::tables;
+use book::Book;
+use dispatch::Dispatch;
+use road::Table;
+
+// No place and no follower.
+const STOP: u16 = 65_535;
+
+// No weight within the range.
+const WEIGHT: i64 = -Book::WEIGHT - 1;
+
+// A book grown by calls to quoted cranes, and how many of the quotes and of the commits were accepted.
+pub struct Grown {
+    pub book: Book,
+    pub quotes: u64,
+    pub commits: u64,
+}
+
+// Before the first call.
+fn ungrown(book: Book) -> Grown {
+    Grown {
+        book,
+        quotes: 0,
+        commits: 0,
+    }
+}
+
+// One call more.
+fn grow(before: Grown, table: Table, place: u16) -> Grown {
+    let quote = Dispatch::quote(before.book, 3, table, place);
+    let commit = Dispatch::commit(before.book, 3, table, place, quote.crane);
+    let quoted = quote.verdict;
+    let committed = commit.verdict;
+    let book = commit.book;
+    Grown {
+        book,
+        quotes: std::num::wrapping_add_u64(before.quotes, (base::number(quoted) == 0) as u64),
+        commits: std::num::wrapping_add_u64(before.commits, (base::number(committed) == 0) as u64),
+    }
+}
+
+// A book of case A with 256 calls. Prints how many quotes and how many commits were accepted.
+pub(crate) fn filled(fresh: Book, table: Table) -> Book {
+    let mut grown = ungrown(fresh);
+    for i in 0..Book::CALLS {
+        grown = grow(grown, table, (i % 3) as u16);
+    }
+    line::number(grown.quotes);
+    line::number(grown.commits);
+    grown.book
+}
+
+// Prints the quote of a call at place 1: the number, the crane, the metres and the least.
+fn quote(book: Book, table: Table) {
+    let quote = Dispatch::quote(book, 3, table, 1);
+    let verdict = quote.verdict;
+    line::verdict(verdict);
+    line::number(quote.crane as u64);
+    line::number(quote.metres as u64);
+    line::number(quote.least);
+    line::comma();
+}
+
+// Prints the commit of a crane to a call at a place: the number, the least, and the least of the costs of the book that it returns.
+fn commit(book: Book, table: Table, place: u16, crane: usize) -> Book {
+    let commit = Dispatch::commit(book, 3, table, place, crane);
+    let verdict = commit.verdict;
+    line::verdict(verdict);
+    line::number(commit.least);
+    let after = commit.book;
+    let costs = Dispatch::costs(after, 3, table);
+    line::number(costs.least);
+    after
+}
+
+// The same of a commit to place 1 of the book with entries past its counts that break every rule. Prints also whether the book returned is
+// the one returned without them, and whether it has 0 past its counts, 1 or 0.
+fn commit_padded(book: Book, table: Table, crane: usize) {
+    let plain = Dispatch::commit(book, 3, table, 1, crane);
+    let after = commit(entries::padded(book, STOP, WEIGHT), table, 1, crane);
+    line::number(entries::same(plain.book, after) as u64);
+    line::number(entries::same(entries::padded(after, 0, 0), after) as u64);
+    line::comma();
+}
+
+// The book before the last call: each crane, a number above them, and that number to a place past the last. Then with other entries past its
+// counts.
+pub(crate) fn last() {
+    let table = tables::three(10, 20, 15);
+    let opening = Book::fresh(days::day(3, 2, 3, 2, 1), table);
+    let grown = grow(grow(ungrown(opening.book), table, 1), table, 0);
+    let book = grown.book;
+    line::begin(28);
+    quote(book, table);
+    commit(book, table, 1, 0);
+    line::comma();
+    commit(book, table, 1, 1);
+    line::comma();
+    commit(book, table, 1, 2);
+    line::comma();
+    commit(book, table, 3, 2);
+    line::comma();
+    line::begin(29);
+    quote(entries::padded(book, STOP, WEIGHT), table);
+    commit_padded(book, table, 0);
+    commit_padded(book, table, 1);
+}
