@@ -12,9 +12,9 @@ use Rattle.base.specs.Lists.{upTo}
 use Rattle.base.proofs.Lists.{take-upTo, upTo-same}
 use Rattle.road.specs.Table.{Table, metresOf}
 use Rattle.dayfile.specs.declared.Day.{Day}
-use Rattle.dayfile.specs.Day.{mostCalls, dayStarts, dayRequests, DayArrays, dayRefusal}
+use Rattle.dayfile.specs.Day.{dayStarts, dayRequests, DayArrays, dayRefusal}
 use Rattle.dayfile.proofs.Limits.{Tested, day-tested, stop-below, length-requests}
-use Rattle.workfunction.specs.Choice.{moved, choice}
+use Rattle.workfunction.specs.Choice.{choice}
 use Rattle.workfunction.specs.Movement.{floor}
 use Rattle.workfunction.specs.Serving.{Served, servedBy, served, serve, standsAfter}
 use Rattle.workfunction.proofs.Serving.{serve-at, serve-long, stands-then}
@@ -24,7 +24,7 @@ use Rattle.book.proofs.FreshBook.{fresh-sound}
 use Rattle.book.proofs.Sound.{book-sound}
 use Rattle.dispatch.specs.Costs.{costsOf}
 use Rattle.dispatch.specs.InTurn.{callAt, quoteAt, commitAt, InTurn}
-use Rattle.dispatch.specs.Quote.{Quoted, unserved, quoteRefusal}
+use Rattle.dispatch.specs.Quote.{Quoted, unserved}
 use Rattle.dispatch.specs.ServedDay.{allFigures, servedDay}
 use Rattle.dispatch.proofs.Added.{CallAdded}
 use Rattle.dispatch.proofs.Called.{Called, called-quote, called-commit}
@@ -71,7 +71,7 @@ module _ (day : Day) (t : Table) (books : ℕ → Book) (arrays : DayArrays day)
 
   module _ (i : ℕ) (so : Turned i (books i)) (h : i < day .calls) where
     abbrev r : ℕ
-    r = callAt day t books i
+    r = callAt day i
 
     call-is : getD (dayRequests day) i 0 ≡ r
     call-is = getD-take (day .calls) (day .requests) i 0 h

@@ -35,106 +35,105 @@ use Rattle.book.proofs.Sound.{placed, stands-long, Sound, book-sound, sound-fit
 
 -- ---- a book
 
-module _ {book : Book} (arrays : BookArrays book) (n : ℕ) (t : Table) where
-  module _ (accepted : bookRefusal book n t ≡ 0) where
-    rules : Sound book n t
-    rules = book-sound accepted
+module _ {book : Book} (arrays : BookArrays book) (n : ℕ) (t : Table) (accepted : bookRefusal book n t ≡ 0) where
+  rules : Sound book n t
+  rules = book-sound accepted
 
-    least-is : costsOf book n t .least ≡ work (metresOf t) n (startsOf book) (requestsOf book) (standsOf book)
+  least-is : costsOf book n t .least ≡ work (metresOf t) n (startsOf book) (requestsOf book) (standsOf book)
+  unfolding costsOf
+  least-is = rw accepted
+
+  floor-is : costsOf book n t .floor ≡ floor (metresOf t) n (startsOf book) (requestsOf book)
+  unfolding costsOf
+  floor-is = rw accepted
+
+  -- "the kept plan's cost is exactly the least reported"
+  pub least-kept : planCost (stopsOf book) (legCost (metresOf t) (startsOf book) (requestsOf book) (standsOf book)) (follower (book .plan)) ≡ costsOf book n t .least
+  least-kept = sound-work arrays n t accepted ∙ sym least-is
+
+  -- "some movement (starts, a crane at each call in turn, present stands) costs that, and every other, several cranes at a time
+  -- included, costs at least as much"
+  pub book-least : LeastTo (metresOf t) n (startsOf book) (requestsOf book) (standsOf book) (costsOf book n t .least)
+  book-least = rw least-is (work-least (metresOf t) (sound-instance arrays rules) (standsOf book))
+
+  -- "The floor likewise."
+  pub book-floor : LeastOfAll (metresOf t) n (startsOf book) (requestsOf book) (costsOf book n t .floor)
+  book-floor = rw floor-is (floor-least (metresOf t) (sound-instance arrays rules))
+
+-- ---- a call quoted
+
+module _ {book : Book} (arrays : BookArrays book) (n : ℕ) (t : Table) (r : ℕ) (accepted : quoteRefusal book n t r ≡ 0) where
+  called : Called book n t r
+  called = quote-called accepted
+
+  pub quote-is : quoteOf book n t r ≡ record { number = 0; figures = figuresOf book n t r }
+  unfolding quoteOf
+  quote-is = rw accepted
+
+  -- the crane quoted is one of the cranes
+  pub quote-below : quoteOf book n t r .figures .crane < book .cranes
+  unfolding servedBy
+  quote-below =
+      let s = called .sound in
+      let below = choice-below (sound-metric s) (sound-instance arrays s) (sound-standing arrays s) (called .on) in
+      rw quote-is (rw (stands-long (sound-fits arrays s)) at below)
+
+  -- "No rearrangement with a crane at the next call beats the single move chosen": its sum is the least that is quoted and the drive
+  pub no-better-rearrangement : IsLeast (Serves n (length (startsOf book)) r)
+      (rearrangementSum (metresOf t) n (startsOf book) (requestsOf book) (standsOf book) r)
+      (quoteOf book n t r .figures .least + quoteOf book n t r .figures .metres)
+  unfolding servedBy moveSum
+  no-better-rearrangement =
+      let s = called .sound in
+      rw quote-is (choice-least (sound-metric s) (sound-instance arrays s) (sound-standing arrays s) (called .on))
+
+  -- a commit of the crane quoted is accepted, and has the least that was quoted
+  pub quote-committed : (plan : List ℕ) (weights : List ℤ) → let c = commitOf book n t r (quoteOf book n t r .figures .crane) plan weights in
+      (c .number ≡ 0) × (c .least ≡ quoteOf book n t r .figures .least)
+  unfolding commitOf servedBy
+  quote-committed plan weights = rw (called-commit called quote-below) (refl, rw quote-is)
+
+-- ---- a crane committed, the quoted one or another
+
+module _ {book : Book} (arrays : BookArrays book) (n : ℕ) (t : Table) (r s : ℕ) (accepted : commitRefusal book n t r s ≡ 0) (plan : List ℕ)
+    (weights : List ℤ) where
+  -- the book after it
+  abbrev next : Book
+  next = commitOf book n t r s plan weights .book
+
+  commit-least-is : commitOf book n t r s plan weights .least ≡ leastAfter book n t r s
+  unfolding commitOf
+  commit-least-is = rw accepted
+
+  next-is : commitOf book n t r s plan weights .book ≡ bookAfter (tidied book) s r plan weights
+  unfolding commitOf
+  next-is = rw accepted
+
+  -- its cranes are the book's, with crane s at r, which is the last call
+  pub commit-added : CallAdded book s r next
+  commit-added = let c = commit-called accepted in rw next-is (next-added arrays (c .0) (c .1) plan weights)
+
+  pub commit-arrays : BookArrays next
+  commit-arrays = let c = commit-called accepted in rw next-is (next-arrays arrays (c .0) (c .1) plan weights)
+
+  -- paper 3: "The kept plan must then still be least for the stands so reached." Some movement that ends there costs the least that is told,
+  -- and every other, several cranes at a time included, costs at least as much
+  pub commit-least : LeastTo (metresOf t) n (startsOf book) (requestsOf book ++ (r ∷ [])) (moved (standsOf book) r s)
+      (commitOf book n t r s plan weights .least)
+  commit-least =
+      let c = commit-called accepted .0 in
+      rw commit-least-is (work-least (metresOf t) (instance-then (sound-instance arrays (c .sound)) (c .on)) (moved (standsOf book) r s))
+
+  module _ (sound : Next next n t) where
+    -- the costs of the next book have that least
+    pub commit-costs : costsOf next n t .least ≡ commitOf book n t r s plan weights .least
     unfolding costsOf
-    least-is = rw accepted
+    commit-costs = rw (sound .sound, commit-added .starts, commit-added .requests, commit-added .stands) (sym commit-least-is)
 
-    floor-is : costsOf book n t .floor ≡ floor (metresOf t) n (startsOf book) (requestsOf book)
-    unfolding costsOf
-    floor-is = rw accepted
-
-    -- "the kept plan's cost is exactly the least reported"
-    pub least-kept : planCost (stopsOf book) (legCost (metresOf t) (startsOf book) (requestsOf book) (standsOf book)) (follower (book .plan)) ≡ costsOf book n t .least
-    least-kept = sound-work arrays n t accepted ∙ sym least-is
-
-    -- "some movement (starts, a crane at each call in turn, present stands) costs that, and every other, several cranes at a time
-    -- included, costs at least as much"
-    pub book-least : LeastTo (metresOf t) n (startsOf book) (requestsOf book) (standsOf book) (costsOf book n t .least)
-    book-least = rw least-is (work-least (metresOf t) (sound-instance arrays rules) (standsOf book))
-
-    -- "The floor likewise."
-    pub book-floor : LeastOfAll (metresOf t) n (startsOf book) (requestsOf book) (costsOf book n t .floor)
-    book-floor = rw floor-is (floor-least (metresOf t) (sound-instance arrays rules))
-
-  -- ---- a call quoted
-
-  module _ (r : ℕ) (accepted : quoteRefusal book n t r ≡ 0) where
-    called : Called book n t r
-    called = quote-called accepted
-
-    pub quote-is : quoteOf book n t r ≡ record { number = 0; figures = figuresOf book n t r }
-    unfolding quoteOf
-    quote-is = rw accepted
-
-    -- the crane quoted is one of the cranes
-    pub quote-below : quoteOf book n t r .figures .crane < book .cranes
-    unfolding servedBy
-    quote-below =
-        let s = called .sound in
-        let below = choice-below (sound-metric s) (sound-instance arrays s) (sound-standing arrays s) (called .on) in
-        rw quote-is (rw (stands-long (sound-fits arrays s)) at below)
-
-    -- "No rearrangement with a crane at the next call beats the single move chosen": its sum is the least that is quoted and the drive
-    pub no-better-rearrangement : IsLeast (Serves n (length (startsOf book)) r)
-        (rearrangementSum (metresOf t) n (startsOf book) (requestsOf book) (standsOf book) r)
-        (quoteOf book n t r .figures .least + quoteOf book n t r .figures .metres)
-    unfolding servedBy moveSum
-    no-better-rearrangement =
-        let s = called .sound in
-        rw quote-is (choice-least (sound-metric s) (sound-instance arrays s) (sound-standing arrays s) (called .on))
-
-    -- a commit of the crane quoted is accepted, and has the least that was quoted
-    pub quote-committed : (plan : List ℕ) (weights : List ℤ) → let c = commitOf book n t r (quoteOf book n t r .figures .crane) plan weights in
-        (c .number ≡ 0) × (c .least ≡ quoteOf book n t r .figures .least)
-    unfolding commitOf servedBy
-    quote-committed plan weights = rw (called-commit called quote-below) (refl, rw quote-is)
-
-  -- ---- a crane committed, the quoted one or another
-
-  module _ (r s : ℕ) (accepted : commitRefusal book n t r s ≡ 0) (plan : List ℕ) (weights : List ℤ) where
-    -- the book after it
-    abbrev next : Book
-    next = commitOf book n t r s plan weights .book
-
-    commit-least-is : commitOf book n t r s plan weights .least ≡ leastAfter book n t r s
-    unfolding commitOf
-    commit-least-is = rw accepted
-
-    next-is : commitOf book n t r s plan weights .book ≡ bookAfter (tidied book) s r plan weights
-    unfolding commitOf
-    next-is = rw accepted
-
-    -- its cranes are the book's, with crane s at r, which is the last call
-    pub commit-added : CallAdded book s r next
-    commit-added = let c = commit-called accepted in rw next-is (next-added arrays (c .0) (c .1) plan weights)
-
-    pub commit-arrays : BookArrays next
-    commit-arrays = let c = commit-called accepted in rw next-is (next-arrays arrays (c .0) (c .1) plan weights)
-
-    -- some movement that ends at the stands so reached costs the least that is told, and every other costs at least as much
-    pub commit-least : LeastTo (metresOf t) n (startsOf book) (requestsOf book ++ (r ∷ [])) (moved (standsOf book) r s)
-        (commitOf book n t r s plan weights .least)
-    commit-least =
-        let c = commit-called accepted .0 in
-        rw commit-least-is (work-least (metresOf t) (instance-then (sound-instance arrays (c .sound)) (c .on)) (moved (standsOf book) r s))
-
-    module _ (sound : Next next n t) where
-      -- the costs of the next book have that least
-      pub commit-costs : costsOf next n t .least ≡ commitOf book n t r s plan weights .least
-      unfolding costsOf
-      commit-costs = rw (sound .sound, commit-added .starts, commit-added .requests, commit-added .stands) (sym commit-least-is)
-
-      -- and so has the plan that it keeps
-      pub commit-kept : planCost (stopsOf next) (legCost (metresOf t) (startsOf next) (requestsOf next) (standsOf next)) (follower (next .plan))
-          ≡ commitOf book n t r s plan weights .least
-      commit-kept =
-          sound-work commit-arrays n t (sound .sound)
-          ∙ rw (commit-added .starts, commit-added .requests, commit-added .stands) (sym commit-least-is)
+    -- and the plan that it keeps costs exactly that
+    pub commit-kept : planCost (stopsOf next) (legCost (metresOf t) (startsOf next) (requestsOf next) (standsOf next)) (follower (next .plan))
+        ≡ commitOf book n t r s plan weights .least
+    commit-kept = least-kept commit-arrays n t (sound .sound) ∙ commit-costs
 
 -- ---- a served day
 

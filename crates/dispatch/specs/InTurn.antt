@@ -10,18 +10,19 @@ use Rattle.book.specs.Book.{freshOf}
 use Rattle.dispatch.specs.Commit.{Committed, commitOf, Next}
 use Rattle.dispatch.specs.Quote.{Quoted, quoteOf}
 
-module _ (day : Day) (t : Table) (books : ℕ → Book) where
-  -- the place of call i
-  abbrev pub callAt : ℕ → ℕ
-  callAt i = getD (day .requests) i 0
+-- the place of call i
+abbrev pub callAt : Day → ℕ → ℕ
+callAt day i = getD (day .requests) i 0
 
-  -- its quote
+module _ (day : Day) (t : Table) (books : ℕ → Book) where
+  -- the quote of call i
   abbrev pub quoteAt : ℕ → Quoted
-  quoteAt i = quoteOf (books i) (day .places) t (callAt i)
+  quoteAt i = quoteOf (books i) (day .places) t (callAt day i)
 
   -- the commit of the crane quoted
   abbrev pub commitAt : ℕ → Committed
-  commitAt i = commitOf (books i) (day .places) t (callAt i) (quoteAt i .figures .crane) (books (i + 1) .plan) (books (i + 1) .weights)
+  commitAt i =
+      commitOf (books i) (day .places) t (callAt day i) (quoteAt i .figures .crane) (books (i + 1) .plan) (books (i + 1) .weights)
 
   pub record InTurn : Type 0 where
     pub opened : books 0 ≡ freshOf day t .book

@@ -8,7 +8,6 @@ use lib.ListN.{length}
 use native.Mathlib.Omega.{arith}
 use Rattle.road.specs.Table.{Table, metresOf, entry}
 use Rattle.dayfile.specs.Day.{mostCalls}
-use Rattle.book.specs.declared.Book.{Book}
 use Rattle.book.specs.Book.{mostStops, startsOf, standsOf, requestsOf, BookArrays}
 use Rattle.book.proofs.Sound.{Fits, starts-long, stands-long, requests-long, sound-fits}
 use Rattle.dispatch.specs.Insertion.{Kept}
