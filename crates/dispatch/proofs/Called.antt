@@ -34,18 +34,13 @@ module _ {book : Book} {n : ℕ} {t : Table} {r : ℕ} where
   called-quote c = rw (sound-book (c .sound), lt-ltb r n (c .on), lt-ltb (book .calls) mostCalls (c .space))
 
   module _ {s : ℕ} where
+    -- a commit that is accepted: so would a quote be, and the crane is one of the book's
     pub commit-called : commitRefusal book n t r s ≡ 0 → Called book n t r × (s < book .cranes)
     commit-called h =
         let tested = then-zero (bookRefusal book n t) _ h in
         let asked = first-of (ltb r n) 4 (askedCraneRefusal (book .cranes) s then fullRefusal (book .calls)) (tested .1) in
-        let sent = first-of (ltb s (book .cranes)) 11 (fullRefusal (book .calls)) (asked .1) in (
-          record {
-            sound = book-sound (tested .0);
-            on = ltb-true r n (asked .0);
-            space = ltb-true (book .calls) mostCalls (unless-zero (ltb (book .calls) mostCalls) 6 (sent .1));
-          },
-          ltb-true s (book .cranes) (sent .0),
-        )
+        let sent = first-of (ltb s (book .cranes)) 11 (fullRefusal (book .calls)) (asked .1) in
+        (quote-called (rw (tested .0, asked .0) (sent .1)), ltb-true s (book .cranes) (sent .0))
 
     -- any crane may be sent to a call that may be quoted
     pub called-commit : Called book n t r → s < book .cranes → commitRefusal book n t r s ≡ 0

@@ -116,7 +116,7 @@ module _ (day : Day) (t : Table) (books : ℕ → Book) (arrays : DayArrays day)
           sound = turns .next i h (committed .0) .sound;
           calls = added .calls ∙ rw (so .calls);
           starts = added .starts ∙ so .starts;
-          stands = added .stands ∙ rw (so .stands, crane-is, more) (sym (stands-then (metresOf t) (day .places) (dayStarts day) unserved [] (dayStarts day) (first i) r));
+          stands = added .stands ∙ rw (so .stands, crane-is, more) (sym (stands-then (metresOf t) (day .places) (dayStarts day) [] (dayStarts day) (first i) r));
           requests = added .requests ∙ rw (so .requests, more);
         }
 
@@ -139,7 +139,7 @@ module _ (day : Day) (t : Table) (books : ℕ → Book) (arrays : DayArrays day)
 
   all-quoted : all ≡ upTo (day .calls) (λ i. quoteAt day t books i .figures)
   all-quoted =
-      let long : length all ≡ day .calls = serve-long (metresOf t) (day .places) (dayStarts day) unserved [] (dayStarts day) (dayRequests day) ∙ calls-long in
+      let long : length all ≡ day .calls = serve-long (metresOf t) (day .places) (dayStarts day) [] (dayStarts day) (dayRequests day) ∙ calls-long in
       sym (take-all (day .calls) all (omega arith)) ∙ take-upTo (day .calls) all unserved (omega arith)
       ∙ upTo-same (day .calls) _ _ (λ i h.
       serve-at (metresOf t) (day .places) (dayStarts day) unserved [] (dayStarts day) (dayRequests day) i (rw calls-long h)

@@ -37,6 +37,7 @@ module _ (d : ℕ → ℕ → ℕ) (n : ℕ) (starts : List ℕ) (none : Served)
       serve-least (calls ++ (r ∷ [])) (moved stands r (choice d n starts calls stands r)) rs i (le-of-suc-le-suc h)
       ∙ rw (append-assoc calls (r ∷ []) (take (suc i) rs))
 
+module _ (d : ℕ → ℕ → ℕ) (n : ℕ) (starts : List ℕ) where
   pub serve-long : (calls stands rs : List ℕ) → length (serve d n starts calls stands rs) ≡ length rs
   unfolding serve
   serve-long calls stands [] = refl
