@@ -2,13 +2,14 @@
 -- what omega reads. Assumes nothing.
 use Prim.Native.Nat.{ℕ, zero, suc, _+_, _-_, _<_, _≤_, zero-le}
 use mathlib.Core.Bool.{Bool, true, false, cond, not, false≢true}
-use mathlib.Core.Path.{_≡_, refl, _∙_}
+use mathlib.Core.Path.{_≡_, refl, sym, ap, subst, _∙_}
 use borrow.Author.Tests.{ltb-true, ltb-false, leb-true, le-leb, lt-leb}
-use lib.Dec.{leb, ltb}
-use lib.IntN.{ℤ, pos, negsuc, negℤ, subℕ, _+ℤ_, _-ℤ_, negℤ-negℤ, negℤ-+ℤ, +ℤ-comm}
-use lib.Signed.{leZ, ltZ}
+use lib.Dec.{T, leb, ltb, leb→le}
+use lib.IntN.{ℤ, pos, negsuc, negℤ, subℕ, _+ℤ_, _-ℤ_, negℤ-negℤ, negℤ-+ℤ, +ℤ-comm, +ℤ-assoc, -ℤ-+ℤ-cancel}
+use lib.Signed.{leZ, ltZ, _≤ℤ_, leZ-yes}
 use mir.Syntax.{w64}
 use mir.Val.{SFits}
+use native.Mathlib.Nat.{le-antisymm, le-of-eq}
 use native.Mathlib.Omega.{arith}
 
 unfoldable pub plus : ℤ → ℕ
@@ -83,6 +84,15 @@ difference-within m n high low h l = go (pos m -ℤ pos n) (plus-difference (pos
 pub neg-difference : (a b : ℤ) → negℤ (a -ℤ b) ≡ b -ℤ a
 neg-difference a b = negℤ-+ℤ a (negℤ b) ∙ rw (negℤ-negℤ b) (+ℤ-comm (negℤ a) b)
 
+-- a difference added to what was taken off
+pub difference-back : (a b : ℤ) → b +ℤ (a -ℤ b) ≡ a
+difference-back a b = +ℤ-comm b (a -ℤ b) ∙ -ℤ-+ℤ-cancel a b
+
+-- a natural added to a difference of two
+pub difference-more : (a b c : ℕ) → pos a -ℤ pos b +ℤ pos c ≡ pos (a + c) -ℤ pos b
+difference-more a b c =
+    +ℤ-assoc (pos a) (negℤ (pos b)) (pos c) ∙ rw (+ℤ-comm (negℤ (pos b)) (pos c)) (sym (+ℤ-assoc (pos a) (pos c) (negℤ (pos b))))
+
 -- what fits 64 bits
 pub fits-64 : (a : ℤ) → plus a < 9223372036854775808 → minus a ≤ 9223372036854775808 → SFits w64 a
 unfolding plus minus
@@ -112,6 +122,30 @@ parts-le (pos a) (pos b) h = le-leb a b (omega arith)
 parts-le (pos a) (negsuc b) h = absurd (omega arith)
 parts-le (negsuc a) (pos b) h = refl
 parts-le (negsuc a) (negsuc b) h = le-leb b a (omega arith)
+
+pub ≤ℤ-antisymm : (a b : ℤ) → a ≤ℤ b → b ≤ℤ a → a ≡ b
+≤ℤ-antisymm (pos a) (pos b) h g = ap pos (le-antisymm (leb→le a b (h .le)) (leb→le b a (g .le)))
+≤ℤ-antisymm (pos a) (negsuc b) h g = absurd (h .le)
+≤ℤ-antisymm (negsuc a) (pos b) h g = absurd (g .le)
+≤ℤ-antisymm (negsuc a) (negsuc b) h g = ap negsuc (le-antisymm (leb→le a b (g .le)) (leb→le b a (h .le)))
+
+-- differences of naturals, by sums
+pub difference-le : (a b c d : ℕ) → a + d ≤ c + b → (pos a -ℤ pos b) ≤ℤ (pos c -ℤ pos d)
+unfolding plus minus
+difference-le a b c d h =
+    let mine = plus-difference (pos a) (pos b) in
+    let other = plus-difference (pos c) (pos d) in
+    leZ-yes (subst T (sym (parts-le (pos a -ℤ pos b) (pos c -ℤ pos d) (omega arith))) tt)
+
+pub difference-same : (a b c d : ℕ) → a + d ≡ c + b → pos a -ℤ pos b ≡ pos c -ℤ pos d
+difference-same a b c d e =
+    ≤ℤ-antisymm (pos a -ℤ pos b) (pos c -ℤ pos d) (difference-le a b c d (le-of-eq e)) (difference-le c d a b (le-of-eq (sym e)))
+
+pub difference-only : (a b c : ℕ) → pos a -ℤ pos c ≡ pos b -ℤ pos c → a ≡ b
+unfolding plus
+difference-only a b c e =
+    let back : pos a ≡ pos b = sym (-ℤ-+ℤ-cancel (pos a) (pos c)) ∙ (ap (λ (z : ℤ). z +ℤ pos c) e ∙ -ℤ-+ℤ-cancel (pos b) (pos c)) in
+    ap plus back
 
 leb-not-ltb : (a b : ℕ) → leb b a ≡ not (ltb a b)
 leb-not-ltb a b = go (ltb a b) refl

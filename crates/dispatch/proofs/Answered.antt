@@ -57,6 +57,15 @@ module _ {n : ℕ} {d read : ℕ → ℕ → ℕ} (roads : Roads n d read) where
       leg = λ p b h l. kept .table .leg p b h l ∙ sym (leg-read (kept .asked .day) (kept .standing) p b h l);
     }
 
+    -- the kept plan costs w of the stands
+    kept-work : planCost (stops starts calls) (legCost d starts calls stands) (follower plan) ≡ work d n starts calls stands
+    kept-work =
+        witness-work (roads .laws) (kept .asked .day) (follower plan) (weight weights) (kept .certified .planned) (kept .standing)
+        (kept .certified .vouched)
+
+    kept-below : (p : ℕ) → p < stops starts calls → follower plan p < stops starts calls
+    kept-below = plan-facts (length starts) (stops starts calls) (follower plan) (kept .certified .planned) .below
+
     module _ (room : length calls < mostCalls) {r : ℕ} (asked : r < n) {longer : List ℕ}
         (extended : LegTable read starts (calls ++ (r ∷ [])) stands longer) where
       -- the table with the call's row and column
@@ -103,29 +112,30 @@ module _ {n : ℕ} {d read : ℕ → ℕ → ℕ} (roads : Roads n d read) where
       kept-plan : Plan (length starts) (stops starts calls) (follower (set plan (stops starts calls) (stops starts calls)))
       kept-plan = taken-plan (length starts) (stops starts calls) plan (kept .certified .planned)
 
-      -- what the plan costs as it is kept, with and without the call
-      kept-present : planCost (stops starts calls) (legCost d starts calls stands) (follower (set plan (stops starts calls) (stops starts calls)))
-          ≡ planCost (stops starts calls) (legAt longer) (follower plan)
+      -- and so it does over the legs with the call, and with the call followed by itself
+      pub kept-present : planCost (stops starts calls) (legAt longer) (follower plan) ≡ work d n starts calls stands
       unfolding planCost
-      kept-present =
-          let below = plan-facts (length starts) (stops starts calls) (follower plan) (kept .certified .planned) .below in
-          sum-same (stops starts calls) _ _ (λ p h.
-          ap (legCost d starts calls stands p) (getD-set-other plan (stops starts calls) p (stops starts calls) 0 (λ e. omega arith))
-          ∙ sym (leg-early p (follower plan p) h (below p h)))
+      kept-present = sum-same (stops starts calls) _ _ (λ p h. leg-early p (follower plan p) h (kept-below p h)) ∙ kept-work
+
+      taken-present : planCost (stops starts calls) (legCost d starts calls stands) (follower (set plan (stops starts calls) (stops starts calls)))
+          ≡ work d n starts calls stands
+      unfolding planCost
+      taken-present =
+          sum-same (stops starts calls) _ _
+          (λ p h. ap (legCost d starts calls stands p) (getD-set-other plan (stops starts calls) p (stops starts calls) 0 (λ e. omega arith)))
+          ∙ kept-work
 
       pub kept-most : planCost (stops starts calls) (legAt longer) (follower plan) ≤ stops starts calls * mostMetres
       unfolding planCost
-      kept-most =
-          let below = plan-facts (length starts) (stops starts calls) (follower plan) (kept .certified .planned) .below in
-          sum-most (stops starts calls) mostMetres _ (λ p h. longer-short p (follower plan p) (le-of-lt h) (le-of-lt (below p h)))
+      kept-most = sum-most (stops starts calls) mostMetres _ (λ p h. longer-short p (follower plan p) (le-of-lt h) (le-of-lt (kept-below p h)))
 
       -- the search for the call tells w and the drive of every crane
       pub kept-netted : {total parent rank before netEnd : ℕ → ℕ}
           → Found (length starts) (stops starts calls) (follower (set plan (stops starts calls) (stops starts calls))) (legAt longer) total parent
           rank before netEnd
-          → Netted n d starts calls stands r (planCost (stops starts calls) (legAt longer) (follower plan)) netEnd (legAt longer)
+          → Netted n d starts calls stands r netEnd (legAt longer)
       kept-netted found =
-          rw kept-present at (found-netted (roads .laws) (kept .asked .day) (kept .standing) asked kept-plan kept-self leg-longer found)
+          found-netted (roads .laws) (kept .asked .day) (kept .standing) asked kept-plan kept-self leg-longer found taken-present
 
       module _ {s : ℕ} {g : ℕ → ℕ} {old y : ℕ → ℤ}
           (taken : Inserted (length starts) (stops starts calls) (follower (set plan (stops starts calls) (stops starts calls))) (legAt longer) s g old y) where

@@ -14,13 +14,14 @@ use Rattle.dayfile.specs.Day.{mostCranes, mostCalls, stopsRule, dayStarts, dayR
 use Rattle.dayfile.proofs.Ignored.{same-refusal}
 use Rattle.dayfile.proofs.Limits.{Tested, day-tested}
 use Rattle.workfunction.specs.Position.{Position}
-use Rattle.workfunction.proofs.Same.{work-same, floor-same, workThen-same, served-same, serve-same}
+use Rattle.workfunction.proofs.Same.{work-same, floor-same, workThen-same, netCost-same, served-same, serve-same}
 use Rattle.book.specs.declared.Book.{Book}
 use Rattle.book.specs.Book.{mostStops, startsOf, standsOf, requestsOf, stopsOf, follower, weight, SameBook}
 use Rattle.book.proofs.Ignored.{past-counts-ignored}
 use Rattle.book.proofs.Sound.{placed, Sound, book-sound}
 use Rattle.dispatch.specs.Commit.{commitRefusal, tidied, leastAfter, Committed, commitOf}
 use Rattle.dispatch.specs.Costs.{costsOf}
+use Rattle.dispatch.specs.NetCosts.{netsOf}
 use Rattle.dispatch.specs.Quote.{quoteRefusal, quoteOf}
 use Rattle.dispatch.specs.ServedDay.{servedDay}
 use Rattle.dispatch.proofs.Called.{Called, quote-called, commit-called}
@@ -82,6 +83,18 @@ module _ (a b : Book) (n : ℕ) (t s : Table) (books : SameBook a b)
         let called : Called a n t r = quote-called h in
         let figures = served-same tables (started (called .sound)) (requestsOf a) (standing (called .sound)) (called .on) in
         rw (← books .starts, ← books .requests, ← books .stands, figures))
+        (λ k. refl)
+
+    -- the net costs
+    pub same-nets-told : netsOf a n t r ≡ netsOf b n s r
+    unfolding netsOf
+    same-nets-told =
+        told-alike _≡_ _ _ same-quote-number
+        (λ h.
+        let called : Called a n t r = quote-called h in
+        let net = netCost-same tables (started (called .sound)) (requestsOf a) (standing (called .sound)) (called .on) in
+        let list = padded-same mostCranes _ _ (pos 0) (books .cranes) (λ i l. net i) in
+        rw (← books .starts, ← books .requests, ← books .stands) (λ i. record { number = 0; nets = list i }))
         (λ k. refl)
 
     module _ (crane : ℕ) where

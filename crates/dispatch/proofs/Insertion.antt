@@ -16,7 +16,7 @@ use Rattle.base.proofs.Tests.{below-at, below-all}
 use Rattle.road.specs.Table.{mostMetres}
 use Rattle.workfunction.specs.Choice.{moved, drive, moveSum, choice}
 use Rattle.workfunction.specs.Movement.{Instance, work}
-use Rattle.workfunction.specs.NetCost.{NetCosts}
+use Rattle.workfunction.specs.NetCost.{StopNets}
 use Rattle.workfunction.specs.Plan.{planRule, vouchRule, planCost, stops, legCost}
 use Rattle.workfunction.specs.Position.{Position}
 use Rattle.workfunction.proofs.Keys.{preferred-least, none, next, preferred-same}
@@ -109,14 +109,14 @@ range-moved n s y z range zero same = below-all _ n (λ b h. each b h (ℕ-discr
 -- ---- a call served
 
 -- where each crane's net cost tells w and its way is its drive, the least end is the crane that the choice sends
-pub netted-choice : {n : ℕ} {d : ℕ → ℕ → ℕ} {starts calls stands : List ℕ} {r present : ℕ} {netEnd : ℕ → ℕ} {c : ℕ → ℕ → ℕ}
-    → Instance n starts calls → Position n (length starts) stands → Netted n d starts calls stands r present netEnd c
+pub netted-choice : {n : ℕ} {d : ℕ → ℕ → ℕ} {starts calls stands : List ℕ} {r : ℕ} {netEnd : ℕ → ℕ} {c : ℕ → ℕ → ℕ}
+    → Instance n starts calls → Position n (length starts) stands → Netted n d starts calls stands r netEnd c
     → leastEnd (length starts) (stops starts calls) netEnd c ≡ choice d n starts calls stands r
 unfolding choice moveSum
-netted-choice {present = present} day standing told =
+netted-choice {n} {d} {starts} {calls} {stands} day standing told =
     rw (standing .cranes)
     (preferred-same (day .crane)
-    (next present netBase (λ e h. let work = told .works e h in let way = told .ways e h in omega arith)
+    (next (work d n starts calls stands) netBase (λ e h. let work = told .works e h in let way = told .ways e h in omega arith)
     (next 0 0 (λ e h. let way = told .ways e h in omega arith) none)))
 
 module _ {n : ℕ} {d : ℕ → ℕ → ℕ} (laws : Metric n d) {starts calls stands : List ℕ} (day : Instance n starts calls)
@@ -137,7 +137,7 @@ module _ {n : ℕ} {d : ℕ → ℕ → ℕ} (laws : Metric n d) {starts calls s
 
   module _ {total parent rank before netEnd : ℕ → ℕ} (found : Found (length starts) N f c total parent rank before netEnd) where
     -- the net costs are those of the legs
-    nets : NetCosts (length starts) N netBase f (legCost d starts (calls ++ (r ∷ [])) stands) (netOf f c total) parent rank
+    nets : StopNets (length starts) N netBase f (legCost d starts (calls ++ (r ∷ [])) stands) (netOf f c total) parent rank
     nets = record {
       source = costs .source;
       least = λ p q lt le may.
@@ -155,7 +155,7 @@ module _ {n : ℕ} {d : ℕ → ℕ → ℕ} (laws : Metric n d) {starts calls s
       ranked = costs .ranked;
     }
       where
-        costs : NetCosts (length starts) N netBase f c (netOf f c total) parent rank
+        costs : StopNets (length starts) N netBase f c (netOf f c total) parent rank
         costs = found .searched .nets
 
         leg : (p q : ℕ) → p ≤ N → q ≤ N → c p (f q) ≡ legCost d starts (calls ++ (r ∷ [])) stands p (f q)
@@ -168,8 +168,9 @@ module _ {n : ℕ} {d : ℕ → ℕ → ℕ} (laws : Metric n d) {starts calls s
         let free = found .freed in
         rw (free .costs e h) (net-work laws day standing asked plan self nets (before e) e (free .stop e h) h (free .follows e h))
 
-    pub found-netted : Netted n d starts calls stands r (planCost N (legCost d starts calls stands) f) netEnd c
-    found-netted = record { works = crane-work; ways = way-drive }
+    -- where the kept plan costs w of the stands
+    pub found-netted : planCost N (legCost d starts calls stands) f ≡ work d n starts calls stands → Netted n d starts calls stands r netEnd c
+    found-netted present = record { works = rw present at crane-work; ways = way-drive }
 
   -- with crane s at the call its weight is 0, and the others are the negated net costs
   pub inserted-served : {s : ℕ} {g : ℕ → ℕ} {old y : ℕ → ℤ} (taken : Inserted (length starts) N f c s g old y) (z : ℕ → ℤ) → z s ≡ pos 0

@@ -1,9 +1,10 @@
 -- The third promise: what the two costs of a sound book, the figures of a quote, the least of a commit and the figures of a served
--- day are the least of: of every movement and of every rearrangement, several cranes at a time included. Assumes nothing.
+-- day are the least of: of every movement and of every rearrangement, several cranes at a time included. And how a quote comes from the
+-- net costs. Assumes nothing.
 use Prim.Native.Nat.{ℕ, suc, _+_, _*_, _<_}
 use mathlib.Core.List.{List, [], _∷_, _++_, List·Memᴰ·not-nil}
-use mathlib.Core.Path.{_≡_, refl, sym, _∙_}
-use lib.IntN.{ℤ}
+use mathlib.Core.Path.{_≡_, refl, sym, subst, _∙_}
+use lib.IntN.{ℤ, pos, _+ℤ_}
 use lib.ListN.{length, getD, take}
 use native.Mathlib.Nat.{zero-add}
 use Rattle.base.specs.Lists.{upTo}
@@ -13,12 +14,12 @@ use Rattle.road.proofs.Surveyed.{surveyed-metric, surveyed-short}
 use Rattle.dayfile.specs.declared.Day.{Day}
 use Rattle.dayfile.specs.Day.{mostCranes, mostCalls, dayStarts, dayRequests, DayArrays, dayRefusal}
 use Rattle.dayfile.proofs.Limits.{Tested, day-tested, enough-starts, length-starts, length-requests}
-use Rattle.workfunction.specs.Choice.{moved, moveSum, rearrangementSum}
+use Rattle.workfunction.specs.Choice.{moved, drive, moveSum, netCost, rearrangementSum, Chosen}
 use Rattle.workfunction.specs.Least.{IsLeast}
 use Rattle.workfunction.specs.Movement.{Instance, Serves, LeastTo, LeastOfAll, work, floor}
 use Rattle.workfunction.specs.Plan.{planCost, legCost}
 use Rattle.workfunction.specs.Serving.{Served, servedBy, serve, standsAfter}
-use Rattle.workfunction.proofs.Choice.{choice-below, choice-least}
+use Rattle.workfunction.proofs.Choice.{choice-below, choice-least, chosen-only, choice-chosen, work-by-net}
 use Rattle.workfunction.proofs.Movement.{work-least, floor-least, instance-first, instance-then, work-none, floor-none}
 use Rattle.workfunction.proofs.Position.{distance-self}
 use Rattle.workfunction.proofs.Serving.{serve-least, Bounded, serve-bounded}
@@ -26,12 +27,13 @@ use Rattle.book.specs.declared.Book.{Book}
 use Rattle.book.specs.Book.{startsOf, standsOf, requestsOf, stopsOf, follower, BookArrays, bookRefusal, freshBook}
 use Rattle.dispatch.specs.Commit.{commitRefusal, tidied, bookAfter, leastAfter, commitOf, Next}
 use Rattle.dispatch.specs.Costs.{costsOf}
+use Rattle.dispatch.specs.NetCosts.{netsOf}
 use Rattle.dispatch.specs.Quote.{quoteRefusal, unserved, figuresOf, quoteOf}
 use Rattle.dispatch.specs.ServedDay.{nth, servedDay}
 use Rattle.dispatch.proofs.Added.{CallAdded, next-arrays, next-added}
-use Rattle.dispatch.proofs.Called.{Called, quote-called, commit-called, called-commit}
+use Rattle.dispatch.proofs.Called.{Called, quote-called, called-quote, commit-called, called-commit}
 use Rattle.book.proofs.FreshBook.{fresh-sound}
-use Rattle.book.proofs.Sound.{placed, stands-long, Sound, book-sound, sound-fits, sound-metric, sound-instance, sound-standing, sound-work}
+use Rattle.book.proofs.Sound.{placed, stands-long, Sound, book-sound, sound-book, sound-fits, sound-metric, sound-instance, sound-standing, sound-work}
 
 -- ---- a book
 
@@ -93,6 +95,40 @@ module _ {book : Book} (arrays : BookArrays book) (n : ℕ) (t : Table) (r : ℕ
   unfolding commitOf servedBy
   quote-committed plan weights = rw (called-commit called quote-below) (refl, rw quote-is)
 
+  -- ---- the list of net costs
+
+  -- the entry of a crane
+  abbrev net : ℕ → ℤ
+  net s = getD (netsOf book n t r .nets) s (pos 0)
+
+  net-is : (s : ℕ) → s < book .cranes → net s ≡ netCost (metresOf t) n (startsOf book) (requestsOf book) (standsOf book) r s
+  unfolding netsOf
+  net-is s h = rw accepted (getD-padded mostCranes (book .cranes) _ (pos 0) (pos 0) s h)
+
+  -- paper 4: the quote's "crane has the smallest net cost plus drive, ties as in a quote"
+  pub quote-chosen : Chosen (book .cranes) net (drive (metresOf t) (standsOf book) r) (quoteOf book n t r .figures .crane)
+  unfolding servedBy
+  quote-chosen =
+      let long = stands-long (sound-fits arrays (called .sound)) in
+      let some : 0 < length (standsOf book) = rw long (called .sound .counts .crane) in
+      let sent = choice-chosen (metresOf t) n (startsOf book) (requestsOf book) (standsOf book) r net some (λ s h. net-is s (rw long at h)) in
+      rw quote-is (subst (λ (k : ℕ). Chosen k net (drive (metresOf t) (standsOf book) r) (figuresOf book n t r .crane)) long sent)
+
+  -- and no other crane has
+  pub quote-only : (s : ℕ) → Chosen (book .cranes) net (drive (metresOf t) (standsOf book) r) s → s ≡ quoteOf book n t r .figures .crane
+  quote-only s chosen = chosen-only s _ chosen quote-chosen
+
+  -- whichever crane is sent, the least then is the present one plus its net cost
+  least-by-net : (s : ℕ) → s < book .cranes → pos (leastAfter book n t r s) ≡ pos (costsOf book n t .least) +ℤ net s
+  least-by-net s h =
+      rw (least-is arrays n t (sound-book (called .sound)), net-is s h)
+      (work-by-net (metresOf t) n (startsOf book) (requestsOf book) (standsOf book) r s)
+
+  -- the quote's "least is the present least plus that net cost"
+  pub quote-least : pos (quoteOf book n t r .figures .least) ≡ pos (costsOf book n t .least) +ℤ net (quoteOf book n t r .figures .crane)
+  unfolding servedBy
+  quote-least = rw quote-is (least-by-net (figuresOf book n t r .crane) (rw quote-is at quote-below))
+
 -- ---- a crane committed, the quoted one or another
 
 module _ {book : Book} (arrays : BookArrays book) (n : ℕ) (t : Table) (r s : ℕ) (accepted : commitRefusal book n t r s ≡ 0) (plan : List ℕ)
@@ -123,6 +159,12 @@ module _ {book : Book} (arrays : BookArrays book) (n : ℕ) (t : Table) (r s : �
   commit-least =
       let c = commit-called accepted .0 in
       rw commit-least-is (work-least (metresOf t) (instance-then (sound-instance arrays (c .sound)) (c .on)) (moved (standsOf book) r s))
+
+  -- it is the present least plus the crane's net cost
+  pub commit-net : pos (commitOf book n t r s plan weights .least) ≡ pos (costsOf book n t .least) +ℤ getD (netsOf book n t r .nets) s (pos 0)
+  commit-net =
+      let c = commit-called accepted in
+      rw commit-least-is (least-by-net arrays n t r (called-quote (c .0)) s (c .1))
 
   module _ (sound : Next next n t) where
     -- the costs of the next book have that least

@@ -177,10 +177,11 @@ pub record CallServed (read : ℕ → ℕ → ℕ) (starts calls : List ℕ) (r 
       → Answered n d starts calls stands r pick told stands' plan' weights' costs'
   pub unmoved : Unmoved (stops starts calls) plan weights plan' weights'
 
--- of each crane what a net cost and the way from the new call tell: w with the call as the last, where that crane goes to it, and its
--- drive; `present` is the cost of the kept plan
-pub record Netted (n : ℕ) (d : ℕ → ℕ → ℕ) (starts calls stands : List ℕ) (r present : ℕ) (netEnd : ℕ → ℕ) (c : ℕ → ℕ → ℕ) : Type 0 where
-  pub works : (e : ℕ) → e < length starts → work d n starts (calls ++ (r ∷ [])) (moved stands r e) + netBase ≡ present + netEnd e
+-- of each crane what a net cost and the way from the new call tell: w with the call as the last, where that crane goes to it, beside w of
+-- the stands; and its drive
+pub record Netted (n : ℕ) (d : ℕ → ℕ → ℕ) (starts calls stands : List ℕ) (r : ℕ) (netEnd : ℕ → ℕ) (c : ℕ → ℕ → ℕ) : Type 0 where
+  pub works : (e : ℕ) → e < length starts
+      → work d n starts (calls ++ (r ∷ [])) (moved stands r e) + netBase ≡ work d n starts calls stands + netEnd e
   pub ways : (e : ℕ) → e < length starts → c (stops starts calls) e ≡ drive d stands r e
 
 -- what the net costs of a book's cranes are given: a call that may be quoted, and room for them
@@ -190,12 +191,18 @@ pub record QuoteGiven (book : Book) (t : Table) (r : ℕ) (nets costs : List ℕ
   pub netted : mostCranes ≤ length nets
   pub costed : mostStops * mostStops ≤ length costs
 
--- the net costs of a book's cranes, and the legs with the call
+-- the net costs of a book's cranes, and the legs with the call, by which the kept plan costs what it does without it
 pub record BookNetted (book : Book) (n : ℕ) (t : Table) (r : ℕ) (nets costs : List ℕ) : Type 0 where
-  pub netted : Netted n (metresOf t) (startsOf book) (requestsOf book) (standsOf book) r
-      (planCost (stopsOf book) (legAt costs) (follower (book .plan))) (at nets) (legAt costs)
+  pub netted : Netted n (metresOf t) (startsOf book) (requestsOf book) (standsOf book) r (at nets) (legAt costs)
+  pub present : planCost (stopsOf book) (legAt costs) (follower (book .plan)) ≡ work (metresOf t) n (startsOf book) (requestsOf book) (standsOf book)
   pub most : planCost (stopsOf book) (legAt costs) (follower (book .plan)) ≤ mostStops * mostMetres
   pub low : (e : ℕ) → e < book .cranes → at nets e ≤ netBase + mostMetres
+
+-- what the signed net costs are made of, and room for them
+pub record LowerGiven (k : ℕ) (nets : List ℕ) (list : List ℤ) : Type 0 where
+  pub netted : k ≤ length nets
+  pub listed : k ≤ length list
+  pub low : (e : ℕ) → e < k → at nets e ≤ netBase + mostMetres
 
 -- m calls served: the figures of each in its array, whose rest is as it was, and the sum of the drives
 pub record DayAnswered (m : ℕ) (all : List Served) (cranes metres leasts cranes' metres' leasts' : List ℕ) (driven : ℕ) : Type 0 where

@@ -1,4 +1,5 @@
 pub mod Quote
+pub mod NetCosts
 pub mod Commit
 pub mod Costs
 pub mod ServedDay

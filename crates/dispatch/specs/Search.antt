@@ -10,7 +10,7 @@ use lib.Dec.{ltb}
 use lib.IntN.{ℤ, pos, natAbs, negℤ, _+ℤ_, _-ℤ_}
 use lib.ListN.{length, getD}
 use Rattle.road.specs.Table.{mostMetres}
-use Rattle.workfunction.specs.NetCost.{NetCosts, Chains, Flipped}
+use Rattle.workfunction.specs.NetCost.{StopNets, Chains, Flipped}
 use Rattle.workfunction.specs.Plan.{planRule, vouchRule}
 use Rattle.book.specs.Book.{mostStops, follower, weight, rangeRule}
 use Rattle.book.specs.Weights.{Weighed}
@@ -155,7 +155,7 @@ netOf f c total p = total p - c p (f p)
 -- what the search delivers
 pub record Searched (k N : ℕ) (f : ℕ → ℕ) (c : ℕ → ℕ → ℕ) (total parent rank : ℕ → ℕ) : Type 0 where
   pub totals : Totalled N f c total
-  pub nets : NetCosts k N netBase f c (netOf f c total) parent rank
+  pub nets : StopNets k N netBase f c (netOf f c total) parent rank
 
 -- every follower up to N follows one stop
 pub record Matched (N : ℕ) (f : ℕ → ℕ) : Type 0 where

@@ -1,4 +1,4 @@
-// What is answered of a book and of a day: the quote of a call, the commit of a crane, the two least costs, the served day.
+// What is answered of a book and of a day: the net costs and the quote of a call, the commit of a crane, the two least costs, the served day.
 // Stands on `base`, `road`, `dayfile`, `workfunction` and `book`.
 mod call;
 mod choice;
@@ -9,6 +9,7 @@ mod flip;
 mod floor;
 mod insert;
 mod legs;
+mod nets;
 mod plan;
 mod quotes;
 mod search;
@@ -23,8 +24,16 @@ use road::Table;
 ghost use mathlib.Core.Path.{_≡_};
 ghost use Rattle.dispatch.specs.Commit.{commitRefusal, committed, commitOf, Next};
 ghost use Rattle.dispatch.specs.Costs.{twoCosts, costsOf};
+ghost use Rattle.dispatch.specs.NetCosts.{netList, netsOf};
 ghost use Rattle.dispatch.specs.Quote.{quoted, quoteOf};
 ghost use Rattle.dispatch.specs.ServedDay.{dayFigures, servedDay};
+
+// The net cost of each crane for a call, by its number: what the least cost rises by, or falls by, if that crane is sent; 0 past the
+// cranes. Or the refusal and zeros.
+pub struct NetCosts {
+    pub verdict: Verdict,
+    pub nets: [i64; Book::CRANES],
+}
 
 // The price of a call: the crane that would be sent, the metres that it would drive and the least cost after it; or the refusal
 // and zeros.
@@ -66,6 +75,17 @@ pub struct ServedDay {
 pub struct Dispatch {}
 
 impl Dispatch {
+    // The net costs by which a quote chooses; refused as a quote is.
+    pub fn net_costs(book: Book, places: usize, table: Table, place: u16) -> NetCosts
+        ensures { λ r. ⌜ netList r ≡ netsOf book places table place ⌝ }
+    {
+        let verdict = quotes::test(book, places, table, place);
+        let Verdict::Accepted = verdict else {
+            return nets::refused(verdict);
+        };
+        nets::accepted(book, &table, place)
+    }
+
     // The price of a call at a place: the book's test, then 5 for the place, then 7 for a full book.
     pub fn quote(book: Book, places: usize, table: Table, place: u16) -> Quote
         ensures { λ r. ⌜ quoted r ≡ quoteOf book places table place ⌝ }

@@ -2,8 +2,8 @@
 use crate::Quote;
 use crate::call;
 use crate::choice;
-use crate::insert;
 use crate::legs;
+use crate::nets;
 use crate::plan;
 use crate::search;
 use base::Verdict;
@@ -12,7 +12,6 @@ use road::Table;
 ghost use mathlib.Core.Path.{_≡_};
 ghost use Prim.Native.Nat.{ℕ};
 ghost use Rattle.base.specs.Numbers.{numberOf};
-ghost use Rattle.dispatch.specs.Insertion.{QuoteGiven, BookNetted};
 ghost use Rattle.dispatch.specs.Quote.{quoteRefusal, quoted, unserved, figuresOf};
 
 // The test of the book, then 5 for the place, then 7 for a full book.
@@ -40,45 +39,6 @@ pub(crate) fn refused(verdict: Verdict) -> Quote
     }
 }
 
-// Of each crane the net cost of freeing it for a call at `place`; and the table of the legs with the call in it.
-fn nets_of(book: Book, table: &Table, place: u16, nets: &mut [u64], costs: &mut [u32])
-    requires { ⌜ QuoteGiven book (now table) place (now nets) (now costs) ⌝ }
-    ensures { λ _. ⌜ ((n : ℕ) → quoteRefusal book n (now (table .entry)) place ≡ 0 → BookNetted book n (now (table .entry)) place (now (nets .exit)) (now (costs .exit))) ⌝ }
-{
-    let cranes = book.cranes;
-    let new = cranes + book.calls;
-    let starts = book.starts;
-    let requests = book.requests;
-    let stands = book.stands;
-    let weights = book.weights;
-    let mut plan = book.plan;
-    let mut totals = [0; Book::STOPS];
-    let mut parents = [0; Book::STOPS];
-    let mut ranks = [0; Book::STOPS];
-    let mut before = [0; Book::CRANES];
-    legs::of_book(book, table, costs);
-    legs::extend(
-        table,
-        &starts[..cranes],
-        &requests[..book.calls],
-        &stands[..cranes],
-        place,
-        costs,
-    );
-    insert::find(
-        cranes,
-        new,
-        costs,
-        &weights[..],
-        &mut plan[..],
-        &mut totals[..],
-        &mut parents[..],
-        &mut ranks[..],
-        nets,
-        &mut before[..],
-    );
-}
-
 // A quote that is accepted: the crane of the least net cost and drive together, and the cost of the kept plan with its net cost.
 pub(crate) fn accepted(book: Book, table: &Table, place: u16) -> Quote
     requires { ⌜ ((n : ℕ) × (quoteRefusal book n (now table) place ≡ 0)) ⌝ }
@@ -88,7 +48,9 @@ pub(crate) fn accepted(book: Book, table: &Table, place: u16) -> Quote
     let plan = book.plan;
     let mut costs = legs::zeros();
     let mut nets = [0; Book::CRANES];
-    nets_of(book, table, place, &mut nets[..], &mut costs[..]);
+    // Step 2 of section 3 of source document 000: the net cost of every crane.
+    nets::of_book(book, table, place, &mut nets[..], &mut costs[..]);
+    // Step 3: the smallest sum of net cost and drive.
     let crane = choice::choose(book.cranes, new, &nets[..], &costs[..]);
     let least = plan::cost(new, &plan[..], &costs[..]);
     Quote {

@@ -186,10 +186,18 @@ pub(crate) fn search(
     );
 }
 
+// A net cost counted from the base, as the signed number that it is.
+pub(crate) fn lowered(net: u64) -> i64
+    requires { ⌜ net ≤ netBase + mostMetres ⌝ }
+    ensures { λ r. ⌜ r ≡ pos net -ℤ pos netBase ⌝ }
+{
+    net as i64 - BASE as i64
+}
+
 // The net cost of freeing the follower of a stop, from its total and the leg to that follower.
 pub(crate) fn net_cost(total: u64, leg: u32) -> i64
     requires { ⌜ (leg ≤ total) × (total ≤ netBase + mostMetres) ⌝ }
     ensures { λ r. ⌜ r ≡ pos (total - leg) -ℤ pos netBase ⌝ }
 {
-    (total - leg as u64) as i64 - BASE as i64
+    lowered(total - leg as u64)
 }

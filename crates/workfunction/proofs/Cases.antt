@@ -12,7 +12,7 @@ use Rattle.base.specs.Tests.{allBelow}
 use Rattle.workfunction.specs.Lists.{minimum, insertions, permutations, sumBelow, filter, leastBy, sections}
 use Rattle.workfunction.specs.Position.{positions, pairing, distance}
 use Rattle.workfunction.specs.Movement.{contains, movements, cost, work, floor}
-use Rattle.workfunction.specs.Choice.{narrowed, preferred, drive, moveSum, choice}
+use Rattle.workfunction.specs.Choice.{narrowed, preferred, drive, moveSum, choice, netCost}
 use Rattle.workfunction.specs.Serving.{Served, servedBy, serve}
 use Rattle.workfunction.specs.Plan.{mayFollow, follows, followersRule, onceRule, planRule, slackRule, vouchAt, vouchRule, planCost, place, legCost, freeCost}
 
@@ -70,6 +70,11 @@ out-of-stands = refl
 pub no-calls : work (metres (three 10 20 15)) 3 (0 ∷ 2 ∷ []) [] (1 ∷ 0 ∷ []) ≡ 15
 unfolding upTo minimum insertions permutations filter sections positions pairing distance contains movements cost work flatMap
 no-calls = refl
+
+-- paper 4: "At call 2 of case A it is 10, then −5": starts 0 and 2, calls 1 and 0, and the cranes at 0 and 2 again
+pub case-a-nets : upTo 2 (netCost (metres (three 10 20 15)) 3 (0 ∷ 2 ∷ []) (1 ∷ 0 ∷ []) (0 ∷ 2 ∷ []) 1) ≡ pos 10 ∷ negℤ (pos 5) ∷ []
+unfolding upTo minimum insertions permutations filter sections positions pairing distance contains movements cost work flatMap netCost
+case-a-nets = refl
 
 -- ---- plans
 

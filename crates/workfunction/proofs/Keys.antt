@@ -6,7 +6,7 @@ use mathlib.Core.List.{List, [], _∷_, headD, List·Memᴰ, List·Memᴰ·head,
 use mathlib.Core.Logic.{_⊎_, inl, inr}
 use mathlib.Core.Path.{_≡_, refl, sym, _∙_}
 use native.Mathlib.Decide.{decLt}
-use native.Mathlib.Nat.{zero-add, le-antisymm, le-refl, le-trans}
+use native.Mathlib.Nat.{zero-add, le-antisymm, le-refl, le-trans, le-of-lt, le-of-eq}
 use native.Mathlib.Omega.{arith}
 use Rattle.base.specs.Lists.{upTo}
 use Rattle.base.proofs.Tests.{by-order, one-more}
@@ -61,18 +61,31 @@ pub NoLater : List (ℕ → ℕ) → ℕ → ℕ → Type 0
 NoLater [] s t = s ≤ t
 NoLater (key ∷ keys) s t = (key s < key t) ⊎ ((key s ≡ key t) × NoLater keys s t)
 
--- by two keys
-pub no-later-by-two : (sum way : ℕ → ℕ) (s t : ℕ) → sum s ≤ sum t → (sum s ≡ sum t → way s ≤ way t) → (sum s ≡ sum t → way s ≡ way t → s ≤ t)
-    → NoLater (sum ∷ way ∷ []) s t
-unfolding NoLater
-no-later-by-two sum way s t low near number =
-    by-order (sum s) (sum t) (λ less. inl less)
-    (λ same. inr (
-      same,
-      by-order (way s) (way t) (λ less. inl less) (λ alike. inr (alike, number same alike))
-          (λ more. absurd (let n = near same in omega arith)),
-    ))
-    (λ more. absurd (omega arith))
+-- by the number alone
+module _ (s t : ℕ) where
+  pub no-later-by-number : s ≤ t → NoLater [] s t
+  unfolding NoLater
+  no-later-by-number h = h
+
+  pub no-later-number : NoLater [] s t → s ≤ t
+  unfolding NoLater
+  no-later-number h = h
+
+-- by one key and then by others
+module _ (key : ℕ → ℕ) (keys : List (ℕ → ℕ)) (s t : ℕ) where
+  pub no-later-by : key s ≤ key t → (key s ≡ key t → NoLater keys s t) → NoLater (key ∷ keys) s t
+  unfolding NoLater
+  no-later-by low rest = by-order (key s) (key t) (λ less. inl less) (λ same. inr (same, rest same)) (λ more. absurd (omega arith))
+
+  pub no-later-key : NoLater (key ∷ keys) s t → key s ≤ key t
+  unfolding NoLater
+  no-later-key (inl less) = le-of-lt less
+  no-later-key (inr same) = le-of-eq (same .0)
+
+  pub no-later-tied : NoLater (key ∷ keys) s t → key s ≡ key t → NoLater keys s t
+  unfolding NoLater
+  no-later-tied (inl less) e = absurd (omega arith)
+  no-later-tied (inr same) e = same .1
 
 no-later-self : (keys : List (ℕ → ℕ)) (s : ℕ) → NoLater keys s s
 unfolding NoLater
@@ -130,13 +143,7 @@ module _ (keys : List (ℕ → ℕ)) (k : ℕ) (some : 0 < k) where
 
 -- the first key is least
 pub preferred-least : (key : ℕ → ℕ) (keys : List (ℕ → ℕ)) (k : ℕ) → 0 < k → (t : ℕ) → t < k → key (preferred (key ∷ keys) k) ≤ key t
-unfolding NoLater
-preferred-least key keys k some t h = either (preferred-first (key ∷ keys) k some t h)
-  where
-    either : (key (preferred (key ∷ keys) k) < key t) ⊎ ((key (preferred (key ∷ keys) k) ≡ key t) × NoLater keys (preferred (key ∷ keys) k) t)
-        → key (preferred (key ∷ keys) k) ≤ key t
-    either (inl less) = omega arith
-    either (inr same) = let e = same .0 in omega arith
+preferred-least key keys k some t h = no-later-key key keys (preferred (key ∷ keys) k) t (preferred-first (key ∷ keys) k some t h)
 
 -- one number more: the one preferred stays, or gives way to it
 module _ (keys : List (ℕ → ℕ)) (e : ℕ) (some : 0 < e) where

@@ -15,7 +15,7 @@ use native.Mathlib.Omega.{arith}
 use Rattle.base.specs.Metric.{Metric}
 use Rattle.base.proofs.Signed.{plus, minus, plus-difference}
 use Rattle.workfunction.specs.Lists.{sumBelow}
-use Rattle.workfunction.specs.NetCost.{NetCosts, Flipped}
+use Rattle.workfunction.specs.NetCost.{StopNets, Flipped}
 use Rattle.workfunction.specs.Plan.{follows, planCost, vouchRule, stops, place, legCost}
 use Rattle.workfunction.specs.Position.{Position}
 use Rattle.workfunction.specs.Movement.{Instance, work}
@@ -80,7 +80,7 @@ module _ {k N : ℕ} {f : ℕ → ℕ} (plan : Plan k N f) (self : f N ≡ N) wh
       subst P (found .2) (each (found .0) (omega arith))
 
 module _ {k N base : ℕ} {f : ℕ → ℕ} {c : ℕ → ℕ → ℕ} {net parent rank : ℕ → ℕ} (plan : Plan k N f) (self : f N ≡ N)
-    (costs : NetCosts k N base f c net parent rank) where
+    (costs : StopNets k N base f c net parent rank) where
   -- the net cost of the stop that b follows
   netBefore : ℕ → ℕ
   netBefore = before (N + 1) f net
@@ -334,7 +334,7 @@ module _ {n : ℕ} {d : ℕ → ℕ → ℕ} (laws : Metric n d) {starts calls s
 
   module _ {base : ℕ} {f net parent rank : ℕ → ℕ} (plan : Plan (length starts) (stops starts calls) f)
       (self : f (stops starts calls) ≡ stops starts calls)
-      (costs : NetCosts (length starts) (stops starts calls) base f (legCost d starts (calls ++ (r ∷ [])) stands) net parent rank) where
+      (costs : StopNets (length starts) (stops starts calls) base f (legCost d starts (calls ++ (r ∷ [])) stands) net parent rank) where
     -- the legs of the kept plan cost what they did before the call
     early-cost : planCost (stops starts calls) (legCost d starts (calls ++ (r ∷ [])) stands) f
         ≡ planCost (stops starts calls) (legCost d starts calls stands) f

@@ -11,7 +11,7 @@ use native.Mathlib.Omega.{arith}
 use Rattle.workfunction.specs.Lists.{minimum, permutations}
 use Rattle.workfunction.specs.Position.{Position, positions, pairing, distance}
 use Rattle.workfunction.specs.Movement.{Movement, movements, cost, work, floor}
-use Rattle.workfunction.specs.Choice.{moved, drive, workThen, moveSum, choice}
+use Rattle.workfunction.specs.Choice.{moved, drive, workThen, moveSum, netCost, choice}
 use Rattle.workfunction.specs.Serving.{servedBy, served, serve}
 use Rattle.workfunction.proofs.Lists.{in-permutations}
 use Rattle.workfunction.proofs.Movement.{in-movements}
@@ -75,6 +75,11 @@ module _ {n : ℕ} {d e : ℕ → ℕ → ℕ} (same : (u v : ℕ) → u < n →
       pub moveSum-same : (s : ℕ) → moveSum d n starts calls stands r s ≡ moveSum e n starts calls stands r s
       unfolding moveSum
       moveSum-same s = simp (workThen-same s, drive-same)
+
+      -- its net cost
+      pub netCost-same : (s : ℕ) → netCost d n starts calls stands r s ≡ netCost e n starts calls stands r s
+      unfolding netCost
+      netCost-same s = rw (workThen-same s, work-same calls standing)
 
       -- the crane chosen
       pub choice-same : choice d n starts calls stands r ≡ choice e n starts calls stands r

@@ -1,5 +1,5 @@
--- Net costs, by which a plan takes in one more call. The new call has the number N, as a stop and as a follower; f is the kept
--- plan, in which N is followed by itself for the moment.
+-- Net costs by stop, by which a plan takes in one more call; those of the cranes, which a caller is told, are `netCost` of Choice. The
+-- new call has the number N, as a stop and as a follower; f is the kept plan, in which N is followed by itself for the moment.
 use Prim.Native.Nat.{ℕ, _+_, _<_, _≤_}
 use mathlib.Core.Logic.{_⊎_}
 use mathlib.Core.Path.{_≡_}
@@ -14,7 +14,7 @@ pub record Chains (N : ℕ) (parent rank : ℕ → ℕ) : Type 0 where
 
 -- net p is what it costs to free the follower of p: p takes the follower of another stop, which takes that of a third, and the
 -- last takes N. It may be negative, so all are raised alike, from base.
-pub record NetCosts (k N base : ℕ) (f : ℕ → ℕ) (c : ℕ → ℕ → ℕ) (net parent rank : ℕ → ℕ) : Type 0 where
+pub record StopNets (k N base : ℕ) (f : ℕ → ℕ) (c : ℕ → ℕ → ℕ) (net parent rank : ℕ → ℕ) : Type 0 where
   pub source : net N ≡ base
   -- no chain by way of a stop q is cheaper
   pub least : (p q : ℕ) → p < N → q ≤ N → (f q < k) ⊎ (p < f q) → net p + c p (f p) ≤ net q + c p (f q)

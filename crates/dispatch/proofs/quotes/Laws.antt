@@ -29,31 +29,13 @@ module _ {book : Book} {n : ℕ} {t : Table} {r : ℕ} (arrays : BookArrays book
   fits : Fits book
   fits = sound-fits arrays (called .sound)
 
-  -- what the search delivers of a book, over the legs with the call
-  pub book-netted : {costs longer plan nets : List ℕ} {total parent rank before : ℕ → ℕ}
-      → Kept n (metresOf t) (startsOf book) (requestsOf book) (standsOf book) (book .plan) (book .weights) costs
-      → LegTable (entry (metresOf t)) (startsOf book) (requestsOf book ++ (r ∷ [])) (standsOf book) longer
-      → plan ≡ set (book .plan) (stopsOf book) (stopsOf book)
-      → Found (book .cranes) (stopsOf book) (follower plan) (legAt longer) total parent rank before (at nets)
-      → BookNetted book n t r nets longer
-  book-netted {nets = nets} {total = total} {parent} {rank} {before} kept extended e found =
-      let roads = sound-roads (called .sound) in
-      let room : length (requestsOf book) < mostCalls = rw (requests-long fits) (called .space) in
-      let few = called .sound .counts in
-      let most = rw (stops-long fits) at (kept-most roads kept room (called .on) extended) in
-      record {
-        netted = rw (stops-long fits) at (kept-netted roads kept room (called .on) extended
-            {total = total} {parent = parent} {rank = rank} {before = before} {netEnd = at nets} (rw (starts-long fits, requests-long fits, ← e) found));
-        most = omega arith;
-        low = ends-low found;
-      }
-
   -- the cost of the kept plan and the net cost of a crane together: not below the base, and not far above it
   pub sum-within : {nets costs : List ℕ} → BookNetted book n t r nets costs → (e : ℕ) → e < book .cranes
       → (netBase ≤ planCost (stopsOf book) (legAt costs) (follower (book .plan)) + at nets e)
       × (planCost (stopsOf book) (legAt costs) (follower (book .plan)) + at nets e ≤ netBase + (mostStops + 1) * mostMetres)
   sum-within told e h =
       let works = told .netted .works e (rw (starts-long fits) h) in
+      let present = told .present in
       (omega arith, omega (arith, told .most, told .low e h))
 
   -- the figures of the least end
@@ -74,7 +56,7 @@ module _ {book : Book} {n : ℕ} {t : Table} {r : ℕ} (arrays : BookArrays book
       let below : crane < length starts = rw sent (rw (standing .cranes) at (choice-below (sound-metric (called .sound)) day standing (called .on))) in
       let drives : metres ≡ drive (metresOf t) (standsOf book) r crane = way ∙ rw (stops-long fits) at (told .netted .ways crane below) in
       let works : least ≡ work (metresOf t) n starts (requestsOf book ++ (r ∷ [])) (moved (standsOf book) r crane) =
-      let w = told .netted .works crane below in omega arith
+      let w = told .netted .works crane below in let present = told .present in omega arith
       in
       let figures : _≡_ {A = Served} (record { crane = crane; metres = metres; least = least }) (figuresOf book n t r) =
       rw (drives, works) (ap (λ (s : ℕ). servedBy (metresOf t) n starts s (requestsOf book) (standsOf book) r) sent)

@@ -12,7 +12,7 @@ use native.Mathlib.Nat.{le-antisymm}
 use native.Mathlib.Omega.{arith}
 use Rattle.base.proofs.Tests.{by-order}
 use Rattle.workfunction.specs.Choice.{preferred}
-use Rattle.workfunction.proofs.Keys.{NoLater, no-later-by-two, preferred-below, preferred-stays, preferred-gives-way}
+use Rattle.workfunction.proofs.Keys.{NoLater, no-later-by-number, no-later-by, preferred-below, preferred-stays, preferred-gives-way}
 use Rattle.dispatch.specs.Legs.{legAt}
 use Rattle.dispatch.specs.Search.{at}
 use Rattle.dispatch.proofs.choice.choose.Statement.{statement}
@@ -83,7 +83,8 @@ module _ (net way : ℕ → ℕ) (k : ℕ) where
 
         first : NoLater keys best e
         first =
-            no-later-by-two sum way best e (let f = facts .0 in let l = s .lowest in omega arith) near (λ same alike. let b = below in omega arith)
+            no-later-by sum (way ∷ []) best e (let f = facts .0 in let l = s .lowest in omega arith)
+            (λ same. no-later-by way [] best e (near same) (λ alike. no-later-by-number best e (let b = below in omega arith)))
 
     choose-taken : t ≡ true → Choosing e w (net e + w) (e + 1)
     choose-taken h = record {
@@ -102,8 +103,8 @@ module _ (net way : ℕ → ℕ) (k : ℕ) where
 
         first : NoLater keys e best
         first =
-            no-later-by-two sum way e best (let f = facts .0 in let l = s .lowest in omega arith) (λ q. let n = near q in omega arith)
-            (λ same alike. absurd (let n = near same in omega arith))
+            no-later-by sum (way ∷ []) e best (let f = facts .0 in let l = s .lowest in omega arith)
+            (λ same. let n = near same in no-later-by way [] e best (omega arith) (λ alike. absurd (omega arith)))
 
 abbrev Inv-loop : tie.InvT-loop
 Inv-loop cranes new nets costs best₀ shortest₀ least₀ e₀ best shortest least e =

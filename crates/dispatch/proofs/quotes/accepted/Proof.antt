@@ -28,10 +28,10 @@ arrays s = record { starts = search needs; stands = search needs; requests = sea
 plan-long : (s : tie.Start) → length (s .args .book .plan) ≡ mostStops
 plan-long s = search needs
 
-abbrev begun : tie.After-nets-of → tie.Start
+abbrev begun : tie.After-of-book → tie.Start
 begun f = f .before .before .before .before .before .before
 
-abbrev netted : tie.After-choose → tie.After-nets-of
+abbrev netted : tie.After-choose → tie.After-of-book
 netted c = c .before .before .before .before .before
 
 -- the crane is one of the cranes
@@ -48,12 +48,12 @@ chosen c = c .before .before .before .before .before
 
 -- the cost of the kept plan and the crane's net cost
 summed : (c : tie.After-cost2) → let f = netted (chosen c) in let b = begun f .args .book in
-    let sum = planCost (stopsOf b) (legAt (f .nets-of .last .1 .1 .1 .1 .0)) (follower (b .plan)) + at (f .nets-of .last .1 .1 .1 .0) (chosen c .choose .result) in
+    let sum = planCost (stopsOf b) (legAt (f .of-book .last .1 .1 .1 .1 .0)) (follower (b .plan)) + at (f .of-book .last .1 .1 .1 .0) (chosen c .choose .result) in
     (netBase ≤ sum) × (sum ≤ netBase + (mostStops + 1) * mostMetres)
 summed c =
     let f = netted (chosen c) in
     let s = begun f in
-    sum-within (arrays s) (called s) (f .nets-of .ensures _ (s .pre .1)) (chosen c .choose .result) (sent (chosen c))
+    sum-within (arrays s) (called s) (f .of-book .ensures _ (s .pre .1)) (chosen c .choose .result) (sent (chosen c))
 
 add-new : tie.Need-add-new
 add-new c = let k = called (c .before) .sound .counts in omega arith
@@ -61,14 +61,14 @@ add-new c = let k = called (c .before) .sound .counts in omega arith
 zeros-requires : tie.Need-zeros-requires
 zeros-requires c κs = search needs
 
-slice-aggregate-nets-of : tie.Need-slice-aggregate-nets-of
-slice-aggregate-nets-of c = search needs
+slice-aggregate-of-book : tie.Need-slice-aggregate-of-book
+slice-aggregate-of-book c = search needs
 
-slice-aggregate-nets-of-2 : tie.Need-slice-aggregate-nets-of-2
-slice-aggregate-nets-of-2 c = search needs
+slice-aggregate-of-book-2 : tie.Need-slice-aggregate-of-book-2
+slice-aggregate-of-book-2 c = search needs
 
-nets-of-requires : tie.Need-nets-of-requires
-nets-of-requires c κs =
+of-book-requires : tie.Need-of-book-requires
+of-book-requires c κs =
     let s = c .before .before .before .before .before in
     record { places = s .pre .0; accepted = s .pre .1; netted = search needs; costed = search needs }
 
@@ -87,9 +87,9 @@ choose-requires c κs =
       crane = k .crane;
       cranes = k .cranes;
       few = omega (arith, called s .space);
-      netted = omega (arith, f .nets-of .kept, k .cranes);
+      netted = omega (arith, f .of-book .kept, k .cranes);
       costed = search needs;
-      low = f .nets-of .ensures _ (s .pre .1) .low;
+      low = f .of-book .ensures _ (s .pre .1) .low;
     }
 
 slice-aggregate-cost : tie.Need-slice-aggregate-cost
@@ -134,8 +134,8 @@ returns : tie.Need-returns
 returns c = λ n h.
     let m = chosen c in
     let f = netted m in
-    quote-told (arrays (begun f)) (quote-called h) (f .nets-of .ensures n h) (m .choose .ensures) (c .cost2 .ensures)
-    (ap (λ (x : ℕ). x + at (f .nets-of .last .1 .1 .1 .0) (m .choose .result) - netBase) (c .before .before .cost .ensures))
+    quote-told (arrays (begun f)) (quote-called h) (f .of-book .ensures n h) (m .choose .ensures) (c .cost2 .ensures)
+    (ap (λ (x : ℕ). x + at (f .of-book .last .1 .1 .1 .0) (m .choose .result) - netBase) (c .before .before .cost .ensures))
 
 pub accepted-spec : {M : Type 1} → statement M
 accepted-spec =
@@ -143,9 +143,9 @@ accepted-spec =
     (tie.spec
     add-new
     zeros-requires
-    slice-aggregate-nets-of
-    slice-aggregate-nets-of-2
-    nets-of-requires
+    slice-aggregate-of-book
+    slice-aggregate-of-book-2
+    of-book-requires
     slice-aggregate-choose
     slice-aggregate-choose-2
     choose-requires

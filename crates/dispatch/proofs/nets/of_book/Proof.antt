@@ -1,4 +1,4 @@
--- `dispatch::quotes::nets_of` meets its contract: the book is a day under way, and the search for the call tells w and the drive of every
+-- `dispatch::nets::of_book` meets its contract: the book is a day under way, and the search for the call tells w and the drive of every
 -- crane. Assumes nothing.
 use Prim.Native.Nat.{ℕ, _*_, _<_, _≤_}
 use mathlib.Core.List.{List}
@@ -17,9 +17,9 @@ use Rattle.dispatch.proofs.Answered.{kept-read, kept-few, kept-witnesse
 use Rattle.dispatch.proofs.Called.{Called, quote-called}
 use Rattle.dispatch.proofs.Carried.{sound-kept}
 use Rattle.dispatch.proofs.Roads.{sound-roads}
-use Rattle.dispatch.proofs.quotes.Laws.{book-netted}
-use Rattle.dispatch.proofs.quotes.nets_of.Statement.{statement}
-use Rattle.dispatch.proofs.quotes.nets_of.Tie as tie
+use Rattle.dispatch.proofs.nets.Laws.{book-netted}
+use Rattle.dispatch.proofs.nets.of_book.Statement.{statement}
+use Rattle.dispatch.proofs.nets.of_book.Tie as tie
 
 -- the table
 abbrev table : tie.Start → Table
@@ -156,8 +156,8 @@ returns c = λ n h.
     let day = kept s n h (search needs) (f .of-book .ensures) in
     book-netted (arrays s) (quote-called h) day (e .extend .ensures) (g .find .ensures .0) (g .find .ensures .1)
 
-pub nets-of-spec : {M : Type 1} → statement M
-nets-of-spec =
+pub of-book-spec : {M : Type 1} → statement M
+of-book-spec =
     tie.close
     (tie.spec
     add-new

@@ -1,6 +1,6 @@
--- `dispatch::search::net_cost` meets its contract: both numbers are far below the limit of the signed type, and so is their
--- difference. Assumes nothing.
-use Prim.Native.Nat.{ℕ, _+_, _-_, _≤_}
+-- `dispatch::search::lowered` meets its contract: both numbers are far below the limit of the signed type, and so is their difference.
+-- Assumes nothing.
+use Prim.Native.Nat.{ℕ, _+_, _≤_}
 use mathlib.Core.Path.{_≡_}
 use borrow.Author.Needs.{needs}
 use lib.IntN.{pos, _-ℤ_}
@@ -11,8 +11,8 @@ use native.Mathlib.Omega.{arith}
 use Rattle.base.proofs.Signed.{difference-fits}
 use Rattle.road.specs.Table.{mostMetres}
 use Rattle.dispatch.specs.Search.{netBase}
-use Rattle.dispatch.proofs.search.net_cost.Statement.{statement}
-use Rattle.dispatch.proofs.search.net_cost.Tie as tie
+use Rattle.dispatch.proofs.search.lowered.Statement.{statement}
+use Rattle.dispatch.proofs.search.lowered.Tie as tie
 
 -- the difference of the net cost as the machine holds it and the base
 module _ (net : ℕ) (h : net ≤ netBase + mostMetres) where
@@ -28,20 +28,17 @@ module _ (net : ℕ) (h : net ≤ netBase + mostMetres) where
   net-read : toZ w64 (ofZ w64 (toZ w64 net -ℤ pos netBase)) ≡ pos net -ℤ pos netBase
   net-read = rw read (toZ-ofZ w64 (pos net -ℤ pos netBase) near)
 
-sub-result : tie.Need-sub-result
-sub-result c = search needs
-
 cast-result : tie.Need-cast-result
 cast-result c = search needs
 
 cast-result-2 : tie.Need-cast-result-2
 cast-result-2 c = search needs
 
-sub-result-2 : tie.Need-sub-result-2
-sub-result-2 c = net-fits (c .args .total - c .args .leg) (omega (arith, c .pre))
+sub-result : tie.Need-sub-result
+sub-result c = net-fits (c .args .net) (c .pre)
 
 returns : tie.Need-returns
-returns c = net-read (c .args .total - c .args .leg) (omega (arith, c .pre))
+returns c = net-read (c .args .net) (c .pre)
 
-pub net-cost-spec : {M : Type 1} → statement M
-net-cost-spec = tie.close (tie.spec sub-result cast-result cast-result-2 sub-result-2 returns)
+pub lowered-spec : {M : Type 1} → statement M
+lowered-spec = tie.close (tie.spec cast-result cast-result-2 sub-result returns)

@@ -1,0 +1,69 @@
+-- The net costs of a book's cranes: what the search finds tells w and the drive of each, and the list that is told has them, signed. Assumes
+-- nothing.
+use Prim.Native.Nat.{ℕ, _+_, _*_, _<_, _≤_}
+use mathlib.Core.List.{List, [], _∷_, _++_}
+use mathlib.Core.Path.{_≡_, refl}
+use lib.IntN.{ℤ, pos, _-ℤ_}
+use lib.ListN.{length, set, drop, replicate}
+use native.Mathlib.Omega.{arith}
+use Rattle.base.specs.Lists.{upTo}
+use Rattle.base.proofs.Lists.{drop-replicate, padded-same}
+use Rattle.base.proofs.Signed.{difference-same}
+use Rattle.road.specs.Table.{Table, mostMetres, metresOf, entry}
+use Rattle.dayfile.specs.Day.{mostCranes, mostCalls}
+use Rattle.workfunction.specs.Choice.{moved, netCost}
+use Rattle.workfunction.specs.Movement.{work}
+use Rattle.workfunction.specs.Plan.{planCost}
+use Rattle.book.specs.declared.Book.{Book}
+use Rattle.book.specs.Book.{mostStops, startsOf, standsOf, requestsOf, stopsOf, follower, BookArrays}
+use Rattle.book.proofs.Sound.{Fits, starts-long, requests-long, stops-long, sound-fits}
+use Rattle.dispatch.specs.Insertion.{Found, Kept, BookNetted}
+use Rattle.dispatch.specs.Legs.{legAt, LegTable}
+use Rattle.dispatch.specs.NetCosts.{NetList, netsByCrane}
+use Rattle.dispatch.specs.Search.{at, netBase}
+use Rattle.dispatch.proofs.Answered.{kept-most, kept-present, kept-netted}
+use Rattle.dispatch.proofs.Called.{Called}
+use Rattle.dispatch.proofs.Roads.{sound-roads}
+use Rattle.dispatch.proofs.insert.Laws.{ends-low}
+
+module _ {book : Book} {n : ℕ} {t : Table} {r : ℕ} (arrays : BookArrays book) (called : Called book n t r) where
+  fits : Fits book
+  fits = sound-fits arrays (called .sound)
+
+  -- what the search delivers of a book, over the legs with the call
+  pub book-netted : {costs longer plan nets : List ℕ} {total parent rank before : ℕ → ℕ}
+      → Kept n (metresOf t) (startsOf book) (requestsOf book) (standsOf book) (book .plan) (book .weights) costs
+      → LegTable (entry (metresOf t)) (startsOf book) (requestsOf book ++ (r ∷ [])) (standsOf book) longer
+      → plan ≡ set (book .plan) (stopsOf book) (stopsOf book)
+      → Found (book .cranes) (stopsOf book) (follower plan) (legAt longer) total parent rank before (at nets)
+      → BookNetted book n t r nets longer
+  book-netted {nets = nets} {total = total} {parent} {rank} {before} kept extended e found =
+      let roads = sound-roads (called .sound) in
+      let room : length (requestsOf book) < mostCalls = rw (requests-long fits) (called .space) in
+      let few = called .sound .counts in
+      let most = rw (stops-long fits) at (kept-most roads kept room (called .on) extended) in
+      record {
+        netted =
+            kept-netted roads kept room (called .on) extended {total = total} {parent = parent} {rank = rank} {before = before} {netEnd = at nets}
+            (rw (starts-long fits, requests-long fits, ← e) found);
+        present = rw (stops-long fits) at (kept-present roads kept room (called .on) extended);
+        most = omega arith;
+        low = ends-low found;
+      }
+
+  -- the list: the signed net cost of each crane is w once it is moved less w of the stands
+  pub nets-told : {nets costs : List ℕ} {list : List ℤ} → BookNetted book n t r nets costs
+      → list ≡ upTo (book .cranes) (λ e. pos (at nets e) -ℤ pos netBase) ++ drop (book .cranes) (replicate mostCranes (pos 0))
+      → _≡_ {A = NetList} (record { number = 0; nets = list }) (record { number = 0; nets = netsByCrane book n t r })
+  unfolding netCost
+  nets-told {nets} told e =
+      let signed : ℕ → ℤ = λ s. pos (at nets s) -ℤ pos netBase in
+      let net = netCost (metresOf t) n (startsOf book) (requestsOf book) (standsOf book) r in
+      let same = padded-same mostCranes signed net (pos 0) (λ i. book .cranes) each in
+      rw (e, drop-replicate (book .cranes) mostCranes (pos 0)) (λ i. record { number = 0; nets = same i })
+    where
+      each : (s : ℕ) → s < book .cranes → pos (at nets s) -ℤ pos netBase ≡ netCost (metresOf t) n (startsOf book) (requestsOf book) (standsOf book) r s
+      each s h =
+          let works = told .netted .works s (rw (starts-long fits) h) in
+          difference-same (at nets s) netBase (work (metresOf t) n (startsOf book) (requestsOf book ++ (r ∷ [])) (moved (standsOf book) r s))
+          (work (metresOf t) n (startsOf book) (requestsOf book) (standsOf book)) (omega arith)
