@@ -1,4 +1,5 @@
-// One more call taken into a plan and its weights: the search for net costs, the pick of an end, the flip, the new weights.
+// One more call taken into a plan and its weights, in the steps of section 3 of source document 000: the search, the net costs, the pick of
+// an end, the new weights and the flip.
 use crate::choice;
 use crate::flip;
 use crate::search;
@@ -35,7 +36,9 @@ pub(crate) fn find(
     ensures { λ _. ⌜ (now (plan .exit) ≡ set (now (plan .entry)) new new) × Found cranes new (follower (now (plan .exit))) (legAt (now (costs .entry))) (at (now (totals .exit))) (at (now (parents .exit))) (at (now (ranks .exit))) (at (now (before .exit))) (at (now (nets .exit))) ⌝ }
 {
     plan[new] = new as u16;
+    // Step 1: the search for an augmenting path to every stop.
     search::search(cranes, new, plan, weights, costs, totals, parents, ranks);
+    // Step 2: the net cost of every end.
     choice::fill_nets(cranes, new, plan, costs, totals, nets, before);
 }
 
@@ -79,7 +82,9 @@ pub(crate) fn insert(
         &mut nets[..],
         &mut before[..],
     );
+    // Step 3: the end of the smallest sum, or the one given.
     let end = end(pick, cranes, new, &nets[..], costs);
+    // Step 4: the new weights, and the plan flipped along the path to that end.
     weights::renew(new, plan, &totals[..], costs, weights);
     flip::flip(new, before[end], &parents[..], &ranks[..], plan);
     end

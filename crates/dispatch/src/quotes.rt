@@ -48,7 +48,7 @@ pub(crate) fn accepted(book: Book, table: &Table, place: u16) -> Quote
     let plan = book.plan;
     let mut costs = legs::zeros();
     let mut nets = [0; Book::CRANES];
-    // Step 2 of section 3 of source document 000: the net cost of every crane.
+    // Steps 1 and 2 of section 3 of source document 000: the net cost of every crane.
     nets::of_book(book, table, place, &mut nets[..], &mut costs[..]);
     // Step 3: the smallest sum of net cost and drive.
     let crane = choice::choose(book.cranes, new, &nets[..], &costs[..]);

@@ -3,8 +3,9 @@ use Prim.Native.Nat.{ℕ, _-_}
 use mathlib.Core.Bool.{Bool, true, false, _&&_}
 use mathlib.Core.List.{List, [], _∷_, _++_, map, flatMap}
 use lib.Dec.{eqb}
-use lib.IntN.{pos, negℤ}
+use lib.IntN.{ℤ, pos, negℤ}
 use lib.ListN.{length, replicate}
+use lib.Signed.{leZ}
 use Rattle.base.specs.Lists.{upTo}
 use Rattle.road.specs.Table.{Table, mostPlaces, metresOf, tableRefusal}
 use Rattle.dayfile.specs.Day.{mostCranes, mostCalls}
@@ -15,6 +16,7 @@ use Rattle.book.specs.Book.{mostStops, startsOf, standsOf, requestsOf, freshOf}
 use Rattle.book.specs.declared.Book.{Book}
 use Rattle.dispatch.specs.Commit.{Committed, commitOf}
 use Rattle.dispatch.specs.Costs.{TwoCosts, costsOf}
+use Rattle.dispatch.specs.NetCosts.{NetList, netsOf}
 use Rattle.dispatch.specs.Quote.{Quoted, quoteOf}
 use Rattle.sheet.specs.declared.row.Row.{Row}
 use Rattle.sheet.specs.Row.{rowBytes}
@@ -30,6 +32,8 @@ pub data Case : Type 0 where
   fresh : List (List ℕ) → List ℕ → ℕ → ℕ → Case
   -- a road table, a book and the place of a call: the sum of each crane's move
   sums : List (List ℕ) → Book → ℕ → List ℕ → Case
+  -- the number of its net costs, and all of their entries
+  netted : List (List ℕ) → Book → ℕ → ℕ → List ℤ → Case
   -- the number, the crane, the metres and the least that are quoted
   quoted : List (List ℕ) → Book → ℕ → ℕ → ℕ → ℕ → ℕ → Case
   -- a crane beside them: the number and the least of its commit, and of the book handed back the stands and the calls
@@ -165,6 +169,9 @@ cases =
     sums (three 10 20 15) bookA 1 (40 ∷ 30 ∷ []) ∷
     quoted (three 10 20 15) bookA 1 0 1 15 15 ∷
     quoted (three 10 20 15) bookA 3 5 0 0 0 ∷
+    -- paper 4: "At call 2 of case A it is 10, then −5", and 0 past the two cranes; refused as the quote is, and 0 throughout
+    netted (three 10 20 15) bookA 1 0 (array mostCranes (pos 0) (pos 10 ∷ negℤ (pos 5) ∷ [])) ∷
+    netted (three 10 20 15) bookA 3 5 (replicate mostCranes (pos 0)) ∷
     committed (three 10 20 15) bookA 1 0 0 30 (1 ∷ 2 ∷ []) (1 ∷ 0 ∷ 1 ∷ []) ∷
     committed (three 10 20 15) bookA 1 1 0 15 (0 ∷ 1 ∷ []) (1 ∷ 0 ∷ 1 ∷ []) ∷
     committed (three 10 20 15) bookA 1 2 12 0 (0 ∷ 2 ∷ []) (1 ∷ 0 ∷ []) ∷
@@ -205,16 +212,26 @@ abbrev moveSums : List (List ℕ) → Book → ℕ → List ℕ
 moveSums rows book r =
     upTo (book .cranes) (moveSum (metresOf (roads rows)) (length rows) (startsOf book) (requestsOf book) (standsOf book) r)
 
--- two lists have the same entries
-unfoldable pub same : List ℕ → List ℕ → Bool
-same [] [] = true
-same [] (b ∷ m) = false
-same (a ∷ l) [] = false
-same (a ∷ l) (b ∷ m) = eqb a b && same l m
+-- two lists have the same entries, by a test of two
+unfoldable pub sameBy : {A : Type 0} → (A → A → Bool) → List A → List A → Bool
+sameBy eq [] [] = true
+sameBy eq [] (b ∷ m) = false
+sameBy eq (a ∷ l) [] = false
+sameBy eq (a ∷ l) (b ∷ m) = eq a b && sameBy eq l m
+
+abbrev same : List ℕ → List ℕ → Bool
+same = sameBy eqb
+
+abbrev sameSigned : List ℤ → List ℤ → Bool
+sameSigned = sameBy (λ a b. leZ a b && leZ b a)
 
 -- these costs, of an accepted book
 abbrev costs : ℕ → ℕ → TwoCosts → Bool
 costs w f c = eqb (c .number) 0 && eqb (c .least) w && eqb (c .floor) f
+
+-- this number with these net costs
+abbrev nets : ℕ → List ℤ → NetList → Bool
+nets n l c = eqb (c .number) n && sameSigned (c .nets) l
 
 -- this number with these figures
 abbrev figures : ℕ → ℕ → ℕ → ℕ → Quoted → Bool
@@ -239,6 +256,7 @@ agrees (table n rows r) = eqb (tableRefusal n (roads rows)) r
 agrees (file bs n i) = eqb (readFile bs .number) n && eqb (readFile bs .index) i
 agrees (fresh rows starts w f) = costs w f (costsOf (opened rows starts) (length rows) (roads rows))
 agrees (sums rows book r l) = same (moveSums rows book r) l
+agrees (netted rows book r n l) = nets n l (netsOf book (length rows) (roads rows) r)
 agrees (quoted rows book r n s m w) = figures n s m w (quoteOf book (length rows) (roads rows) r)
 agrees (committed rows book r c n w stands calls) = handed n w stands calls (commitOf book (length rows) (roads rows) r c [] [])
 agrees (print bs out) = same (printOf bs) out
