@@ -52,15 +52,15 @@ module _ {book : Book} {n : ℕ} {t : Table} {r : ℕ} (arrays : BookArrays book
       }
 
   -- the list: the signed net cost of each crane is w once it is moved less w of the stands
-  pub nets-told : {nets costs : List ℕ} {list : List ℤ} → BookNetted book n t r nets costs
-      → list ≡ upTo (book .cranes) (λ e. pos (at nets e) -ℤ pos netBase) ++ drop (book .cranes) (replicate mostCranes (pos 0))
+  pub nets-told : {nets costs : List ℕ} {empty list : List ℤ} → BookNetted book n t r nets costs
+      → list ≡ upTo (book .cranes) (λ e. pos (at nets e) -ℤ pos netBase) ++ drop (book .cranes) empty → empty ≡ replicate mostCranes (pos 0)
       → _≡_ {A = NetList} (record { number = 0; nets = list }) (record { number = 0; nets = netsByCrane book n t r })
   unfolding netCost
-  nets-told {nets} told e =
+  nets-told {nets} told e zeros =
       let signed : ℕ → ℤ = λ s. pos (at nets s) -ℤ pos netBase in
       let net = netCost (metresOf t) n (startsOf book) (requestsOf book) (standsOf book) r in
       let same = padded-same mostCranes signed net (pos 0) (λ i. book .cranes) each in
-      rw (e, drop-replicate (book .cranes) mostCranes (pos 0)) (λ i. record { number = 0; nets = same i })
+      rw (e, zeros, drop-replicate (book .cranes) mostCranes (pos 0)) (λ i. record { number = 0; nets = same i })
     where
       each : (s : ℕ) → s < book .cranes → pos (at nets s) -ℤ pos netBase ≡ netCost (metresOf t) n (startsOf book) (requestsOf book) (standsOf book) r s
       each s h =

@@ -1,6 +1,6 @@
 -- `dispatch::nets::accepted` meets its contract: the net costs of the search, signed, are those of the book's cranes. Assumes nothing.
 use Prim.Native.Nat.{_≤_}
-use mathlib.Core.Path.{_≡_}
+use mathlib.Core.Path.{_≡_, refl}
 use borrow.Author.Needs.{needs}
 use native.Mathlib.Omega.{arith}
 use Rattle.book.specs.Book.{BookArrays}
@@ -57,7 +57,7 @@ returns : tie.Need-returns
 returns c = λ n h.
     let l = c .before in
     let f = netted l in
-    nets-told (arrays (begun f)) (quote-called h) (f .of-book .ensures n h) (l .lower .ensures)
+    nets-told (arrays (begun f)) (quote-called h) (f .of-book .ensures n h) (l .lower .ensures) refl
 
 pub accepted-spec : {M : Type 1} → statement M
 accepted-spec =
