@@ -6,6 +6,7 @@ use mathlib.Core.List.{List, [], _∷_, _++_, List·Memᴰ·not-nil}
 use mathlib.Core.Path.{_≡_, refl, sym, subst, _∙_}
 use lib.IntN.{ℤ, pos, _+ℤ_}
 use lib.ListN.{length, getD, take}
+use lib.Signed.{_≤ℤ_}
 use native.Mathlib.Nat.{zero-add}
 use Rattle.base.specs.Lists.{upTo}
 use Rattle.base.proofs.Lists.{getD-padded, take-padded, take-upTo}
@@ -22,7 +23,7 @@ use Rattle.workfunction.specs.Serving.{Served, servedBy, serve, standsAfter}
 use Rattle.workfunction.proofs.Choice.{choice-below, choice-least, chosen-only, choice-chosen, work-by-net}
 use Rattle.workfunction.proofs.Movement.{work-least, floor-least, instance-first, instance-then, work-none, floor-none}
 use Rattle.workfunction.proofs.Position.{distance-self}
-use Rattle.workfunction.proofs.Serving.{serve-least, Bounded, serve-bounded}
+use Rattle.workfunction.proofs.Serving.{serve-least, netCost-most, Bounded, serve-bounded}
 use Rattle.book.specs.declared.Book.{Book}
 use Rattle.book.specs.Book.{startsOf, standsOf, requestsOf, stopsOf, follower, BookArrays, bookRefusal, freshBook}
 use Rattle.dispatch.specs.Commit.{commitRefusal, tidied, bookAfter, leastAfter, commitOf, Next}
@@ -104,6 +105,13 @@ module _ {book : Book} (arrays : BookArrays book) (n : ℕ) (t : Table) (r : ℕ
   net-is : (s : ℕ) → s < book .cranes → net s ≡ netCost (metresOf t) n (startsOf book) (requestsOf book) (standsOf book) r s
   unfolding netsOf
   net-is s h = rw accepted (getD-padded mostCranes (book .cranes) _ (pos 0) (pos 0) s h)
+
+  -- no net cost is above the crane's drive
+  pub net-within-drive : (s : ℕ) → s < book .cranes → net s ≤ℤ pos (drive (metresOf t) (standsOf book) r s)
+  net-within-drive s h =
+      let sound = called .sound in
+      rw (net-is s h) (netCost-most (sound-metric sound) (sound-instance arrays sound) (sound-standing arrays sound) (called .on) s
+      (rw (stands-long (sound-fits arrays sound)) h))
 
   -- paper 4: the quote's "crane has the smallest net cost plus drive, ties as in a quote"
   pub quote-chosen : Chosen (book .cranes) net (drive (metresOf t) (standsOf book) r) (quoteOf book n t r .figures .crane)

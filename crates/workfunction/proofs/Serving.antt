@@ -2,14 +2,17 @@
 -- the stands after it. A call raises the least by the drive to it at the most. Assumes nothing.
 use Prim.Native.Nat.{ℕ, zero, suc, _+_, _*_, _<_, _≤_}
 use mathlib.Core.List.{List, [], _∷_, _++_, append-nil, append-assoc, List·Memᴰ, List·Memᴰ·head, List·Memᴰ·tail}
-use mathlib.Core.Path.{_≡_, refl, ap, _∙_}
+use mathlib.Core.Path.{_≡_, refl, ap, subst, _∙_}
+use lib.IntN.{pos}
 use lib.ListN.{length, getD, take}
-use native.Mathlib.Nat.{not-suc-le-zero, le-of-suc-le-suc, one-mul, suc-add, suc-mul}
+use lib.Signed.{_≤ℤ_}
+use native.Mathlib.Nat.{add-zero, not-suc-le-zero, le-of-suc-le-suc, one-mul, suc-add, suc-mul}
 use native.Mathlib.Omega.{arith}
 use Rattle.base.specs.Metric.{Metric}
+use Rattle.base.proofs.Signed.{difference-le}
 use Rattle.workfunction.specs.Position.{Position}
 use Rattle.workfunction.specs.Movement.{Instance, work}
-use Rattle.workfunction.specs.Choice.{moved, drive, choice}
+use Rattle.workfunction.specs.Choice.{moved, drive, netCost, choice}
 use Rattle.workfunction.specs.Serving.{Served, servedBy, served, serve, standsAfter}
 use Rattle.workfunction.proofs.Choice.{choice-below}
 use Rattle.workfunction.proofs.Movement.{work-on, work-served, instance-then}
@@ -70,6 +73,16 @@ module _ {n : ℕ} {d : ℕ → ℕ → ℕ} (laws : Metric n d) {starts : List 
       let on = work-on d day laws standing there in
       let way = distance-moved laws stands s r standing lt asked in
       omega arith
+
+  -- so no net cost is above the crane's drive
+  pub netCost-most : {calls stands : List ℕ} {r : ℕ} → Instance n starts calls → Position n (length starts) stands → r < n → (s : ℕ)
+      → s < length stands → netCost d n starts calls stands r s ≤ℤ pos (drive d stands r s)
+  unfolding netCost
+  netCost-most {calls} {stands} {r} day standing asked s lt =
+      let more = work-then day standing asked s lt in
+      let after = work d n starts (calls ++ (r ∷ [])) (moved stands r s) in
+      let low = difference-le after (work d n starts calls stands) (drive d stands r s) 0 (omega arith) in
+      subst (λ (m : ℕ). netCost d n starts calls stands r s ≤ℤ pos m) (add-zero (drive d stands r s)) low
 
   module _ {longest : ℕ} (short : (u v : ℕ) → u < n → v < n → d u v ≤ longest) where
     -- the call after calls whose least is w

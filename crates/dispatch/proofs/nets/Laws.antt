@@ -1,21 +1,20 @@
 -- The net costs of a book's cranes: what the search finds tells w and the drive of each, and the list that is told has them, signed. Assumes
 -- nothing.
-use Prim.Native.Nat.{ℕ, _+_, _*_, _<_, _≤_}
+use Prim.Native.Nat.{ℕ, _+_, _<_}
 use mathlib.Core.List.{List, [], _∷_, _++_}
-use mathlib.Core.Path.{_≡_, refl}
+use mathlib.Core.Path.{_≡_}
 use lib.IntN.{ℤ, pos, _-ℤ_}
 use lib.ListN.{length, set, drop, replicate}
 use native.Mathlib.Omega.{arith}
 use Rattle.base.specs.Lists.{upTo}
 use Rattle.base.proofs.Lists.{drop-replicate, padded-same}
 use Rattle.base.proofs.Signed.{difference-same}
-use Rattle.road.specs.Table.{Table, mostMetres, metresOf, entry}
+use Rattle.road.specs.Table.{Table, metresOf, entry}
 use Rattle.dayfile.specs.Day.{mostCranes, mostCalls}
 use Rattle.workfunction.specs.Choice.{moved, netCost}
 use Rattle.workfunction.specs.Movement.{work}
-use Rattle.workfunction.specs.Plan.{planCost}
 use Rattle.book.specs.declared.Book.{Book}
-use Rattle.book.specs.Book.{mostStops, startsOf, standsOf, requestsOf, stopsOf, follower, BookArrays}
+use Rattle.book.specs.Book.{startsOf, standsOf, requestsOf, stopsOf, follower, BookArrays}
 use Rattle.book.proofs.Sound.{Fits, starts-long, requests-long, stops-long, sound-fits}
 use Rattle.dispatch.specs.Insertion.{Found, Kept, BookNetted}
 use Rattle.dispatch.specs.Legs.{legAt, LegTable}

@@ -1,12 +1,10 @@
--- A quote by the net costs of a book's cranes: what the search finds tells w and the drive of each, and the least end is the crane that the
--- choice sends. Assumes nothing.
+-- A quote by the net costs of a book's cranes: the least end is the crane that the choice sends. Assumes nothing.
 use Prim.Native.Nat.{ℕ, _+_, _-_, _*_, _<_, _≤_}
 use mathlib.Core.List.{List, [], _∷_, _++_}
 use mathlib.Core.Path.{_≡_, ap, _∙_}
-use lib.ListN.{length, set}
+use lib.ListN.{length}
 use native.Mathlib.Omega.{arith}
-use Rattle.road.specs.Table.{Table, mostMetres, metresOf, entry}
-use Rattle.dayfile.specs.Day.{mostCalls}
+use Rattle.road.specs.Table.{Table, mostMetres, metresOf}
 use Rattle.workfunction.specs.Choice.{moved, drive, choice}
 use Rattle.workfunction.specs.Movement.{work}
 use Rattle.workfunction.specs.Plan.{planCost}
@@ -15,15 +13,12 @@ use Rattle.workfunction.proofs.Choice.{choice-below}
 use Rattle.book.specs.declared.Book.{Book}
 use Rattle.book.specs.Book.{mostStops, startsOf, standsOf, requestsOf, stopsOf, follower, BookArrays}
 use Rattle.book.proofs.Sound.{Fits, starts-long, requests-long, stops-long, sound-fits, sound-metric, sound-instance, sound-standing}
-use Rattle.dispatch.specs.Insertion.{leastEnd, Found, Kept, BookNetted}
-use Rattle.dispatch.specs.Legs.{legAt, LegTable}
+use Rattle.dispatch.specs.Insertion.{leastEnd, BookNetted}
+use Rattle.dispatch.specs.Legs.{legAt}
 use Rattle.dispatch.specs.Quote.{Quoted, figuresOf}
 use Rattle.dispatch.specs.Search.{at, netBase}
-use Rattle.dispatch.proofs.Answered.{kept-most, kept-netted}
 use Rattle.dispatch.proofs.Called.{Called}
 use Rattle.dispatch.proofs.Insertion.{netted-choice}
-use Rattle.dispatch.proofs.Roads.{sound-roads}
-use Rattle.dispatch.proofs.insert.Laws.{ends-low}
 
 module _ {book : Book} {n : ℕ} {t : Table} {r : ℕ} (arrays : BookArrays book) (called : Called book n t r) where
   fits : Fits book

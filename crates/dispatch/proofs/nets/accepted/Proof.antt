@@ -1,6 +1,5 @@
 -- `dispatch::nets::accepted` meets its contract: the net costs of the search, signed, are those of the book's cranes. Assumes nothing.
-use Prim.Native.Nat.{_≤_}
-use mathlib.Core.Path.{_≡_, refl}
+use mathlib.Core.Path.{refl}
 use borrow.Author.Needs.{needs}
 use native.Mathlib.Omega.{arith}
 use Rattle.book.specs.Book.{BookArrays}
