@@ -16,6 +16,9 @@ pub type Position = [u16; Day::CRANES];
 // For each position, by its code, the least cost of a movement that has come to it.
 pub type Reached = [u64; POSITIONS];
 
+// For each crane, by its number, the work function after it is sent to a call; 0 past the cranes.
+pub type Leasts = [u64; Day::CRANES];
+
 // How many places and cranes a day has; how many codes its positions have, and how many pairings two of them.
 pub struct Size {
     pub places: usize,
@@ -168,10 +171,10 @@ pub(crate) fn begin(cranes: usize, starts: Position) -> Reached {
     reached
 }
 
-// The work function at an end: the least, over all positions that movements have come to, of the cost so far and the distance. A position
-// whose cost so far is no less than the least found is passed over.
-pub(crate) fn work_at(table: &Table, size: Size, reached: &Reached, end: Position) -> u64 {
-    let mut least = FAR;
+// The lesser of a cost and the work function at an end: the least, over all positions that movements have come to, of the cost so far and
+// the distance. A position whose cost so far is no less than the least found is passed over.
+fn work_below(table: &Table, size: Size, reached: &Reached, end: Position, most: u64) -> u64 {
+    let mut least = most;
     for code in 0..size.codes {
         let so_far = reached[code % POSITIONS];
         if so_far < least {
@@ -180,6 +183,11 @@ pub(crate) fn work_at(table: &Table, size: Size, reached: &Reached, end: Positio
         }
     }
     least
+}
+
+// The work function at an end.
+pub(crate) fn work_at(table: &Table, size: Size, reached: &Reached, end: Position) -> u64 {
+    work_below(table, size, reached, end, FAR)
 }
 
 // One call more: every position that contains its place.
@@ -199,7 +207,7 @@ pub(crate) fn floor(table: &Table, size: Size, reached: &Reached) -> u64 {
     let mut least = FAR;
     for code in 0..size.codes {
         if listed(size.places, code) {
-            least = lesser(least, work_at(table, size, reached, position(code)));
+            least = work_below(table, size, reached, position(code), least);
         }
     }
     least
@@ -227,17 +235,31 @@ fn preferred(first: Sent, second: Sent) -> Sent {
     sent
 }
 
-// What sending a crane costs, where `reached` has the call as its last.
-pub(crate) fn sending(
+// The work function at the stands with each crane in its turn moved to the place of a call, where `reached` has the call as its last.
+pub(crate) fn leasts(
     table: &Table,
     size: Size,
     reached: &Reached,
     stands: Position,
     place: u16,
+) -> Leasts {
+    let mut leasts = [0; Day::CRANES];
+    for crane in 0..size.cranes {
+        leasts[crane % Day::CRANES] = work_at(table, size, reached, with(stands, crane, place));
+    }
+    leasts
+}
+
+// What sending a crane costs.
+pub(crate) fn sending(
+    table: &Table,
+    leasts: Leasts,
+    stands: Position,
+    place: u16,
     crane: usize,
 ) -> Sent {
     let metres = way(table, at(stands, crane), place as usize);
-    let least = work_at(table, size, reached, with(stands, crane, place));
+    let least = leasts[crane % Day::CRANES];
     Sent {
         crane,
         metres,
@@ -250,14 +272,14 @@ pub(crate) fn sending(
 // The choice among all cranes.
 pub(crate) fn choose(
     table: &Table,
-    size: Size,
-    reached: &Reached,
+    cranes: usize,
+    leasts: Leasts,
     stands: Position,
     place: u16,
 ) -> Sent {
-    let mut best = sending(table, size, reached, stands, place, 0);
-    for crane in 1..size.cranes {
-        best = preferred(best, sending(table, size, reached, stands, place, crane));
+    let mut best = sending(table, leasts, stands, place, 0);
+    for crane in 1..cranes {
+        best = preferred(best, sending(table, leasts, stands, place, crane));
     }
     best
 }

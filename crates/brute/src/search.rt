@@ -1,6 +1,8 @@
-// A day's calls by the library and by the brute search, side by side: each is quoted, and a crane is committed to it, the quoted one or
-// another.
+// A day's calls by the library and by the brute search, side by side: the net costs and the quote of each are asked, and a crane is committed
+// to it, the quoted one or another.
+use crate::nets;
 use crate::positions;
+use crate::positions::Leasts;
 use crate::positions::Position;
 use crate::positions::Reached;
 use crate::positions::Sent;
@@ -42,11 +44,13 @@ pub struct Sides {
     pub others: u64,
 }
 
-// What both sides tell of a call: the library's quote, and of the search the crane that it would send and the positions reached with the
-// call.
+// What both sides tell of a call: whether the library's net costs are the search's; the library's quote; and of the search the crane that it
+// would send, the work function after each crane and the positions reached with the call.
 pub struct Answers {
+    pub netted: bool,
     pub quote: Quote,
     pub sent: Sent,
+    pub leasts: Leasts,
     pub reached: Reached,
 }
 
@@ -113,10 +117,15 @@ fn asked(table: &Table, size: Size, sides: Sides, place: u16) -> Answers {
     let before = desk.reached;
     let stands = desk.stands;
     let reached = positions::serve(table, size, &before, place);
-    let sent = positions::choose(table, size, &reached, stands, place);
+    let leasts = positions::leasts(table, size, &reached, stands, place);
+    let present = positions::work_at(table, size, &before, stands);
+    let told = Dispatch::net_costs(book, size.places, *table, place);
+    let sent = positions::choose(table, size.cranes, leasts, stands, place);
     Answers {
+        netted: nets::alike(told, size.cranes, present, leasts),
         quote: Dispatch::quote(book, size.places, *table, place),
         sent,
+        leasts,
         reached,
     }
 }
@@ -146,12 +155,13 @@ fn done(
     let sent = answers.sent;
     let quote = answers.quote;
     let quoted = quote.verdict;
-    let same = alike(sent, quote.crane, quote.metres, quote.least);
+    let same = answers.netted & alike(sent, quote.crane, quote.metres, quote.least);
     let crane = picked(size.cranes, quote.crane, behind);
     let before = sides.desk;
     let stands = before.stands;
     let reached = answers.reached;
-    let moved = positions::sending(table, size, &reached, stands, place, crane);
+    let leasts = answers.leasts;
+    let moved = positions::sending(table, leasts, stands, place, crane);
     let commit = Dispatch::commit(sides.book, size.places, *table, place, crane);
     let committed = commit.verdict;
     let accepted = (base::number(quoted) == 0) & (base::number(committed) == 0);
@@ -208,7 +218,7 @@ fn calls(day: Day, table: &Table, size: Size, first: Sides, cranes: Source) -> F
     Followed { sides, sents }
 }
 
-// A small day from its fresh book, by such cranes: every quote, every commit and every pair of costs.
+// A small day from its fresh book, by such cranes: all net costs, every quote, every commit and every pair of costs.
 fn follow(day: Day, table: &Table, cranes: Source) -> Followed {
     let size = positions::size_of(day.places, day.cranes);
     let opening = Book::fresh(day, *table);

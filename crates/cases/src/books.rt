@@ -4,6 +4,7 @@ use crate::calls;
 use crate::days;
 use crate::entries;
 use crate::line;
+use crate::nets;
 use crate::tables;
 use book::Book;
 use dispatch::Dispatch;
@@ -97,9 +98,9 @@ fn changed(book: Book, list: u32, at: usize, value: u16) -> Book {
     other
 }
 
-// Prints of a book and a call the number that the test gives; the number of the costs, the least and the floor; the number of the quote, and
-// whether its crane, metres and least are 0, 1 or 0; the number of the commit of a crane, and whether its least is 0 and its book is the one
-// given, 1 or 0.
+// Prints of a book and a call the number that the test gives; the number of the costs, the least and the floor; the number of the net costs,
+// and whether all 16 are 0, 1 or 0; the number of the quote, and whether its crane, metres and least are 0, 1 or 0; the number of the commit
+// of a crane, and whether its least is 0 and its book is the one given, 1 or 0.
 fn ask(book: Book, places: usize, table: Table, place: u16, crane: usize) {
     line::verdict(book.test(places, table));
     let costs = Dispatch::costs(book, places, table);
@@ -107,6 +108,7 @@ fn ask(book: Book, places: usize, table: Table, place: u16, crane: usize) {
     line::verdict(told);
     line::number(costs.least);
     line::number(costs.floor);
+    nets::ask(book, places, table, place);
     let quote = Dispatch::quote(book, places, table, place);
     let quoted = quote.verdict;
     line::verdict(quoted);

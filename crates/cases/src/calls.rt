@@ -1,8 +1,9 @@
-// Calls of case A in memory: its book before the last call, with the quote and commits of one crane and another; and a full book of its
-// places.
+// Calls of case A in memory: its book before the last call, with the net costs, the quote and commits of one crane and another; and a full
+// book of its places.
 use crate::days;
 use crate::entries;
 use crate::line;
+use crate::nets;
 use crate::tables;
 use book::Book;
 use dispatch::Dispatch;
@@ -55,6 +56,17 @@ pub(crate) fn filled(fresh: Book, table: Table) -> Book {
     grown.book
 }
 
+// Prints the net costs of a call at a place: the number, those of cranes 0 and 1, and whether all past them are 0, 1 or 0.
+fn net_costs(book: Book, table: Table, place: u16) {
+    let told = Dispatch::net_costs(book, 3, table, place);
+    let verdict = told.verdict;
+    line::verdict(verdict);
+    line::signed(nets::at(told, 0));
+    line::signed(nets::at(told, 1));
+    line::number(nets::zeros_from(told, 2) as u64);
+    line::comma();
+}
+
 // Prints the quote of a call at place 1: the number, the crane, the metres and the least.
 fn quote(book: Book, table: Table) {
     let quote = Dispatch::quote(book, 3, table, 1);
@@ -88,14 +100,16 @@ fn commit_padded(book: Book, table: Table, crane: usize) {
     line::comma();
 }
 
-// The book before the last call: each crane, a number above them, and that number to a place past the last. Then with other entries past its
-// counts.
+// The book before the last call: the net costs, those of a place past the last, and the quote; each crane, a number above them, and that
+// number to a place past the last. Then with other entries past its counts.
 pub(crate) fn last() {
     let table = tables::three(10, 20, 15);
     let opening = Book::fresh(days::day(3, 2, 3, 2, 1), table);
     let grown = grow(grow(ungrown(opening.book), table, 1), table, 0);
     let book = grown.book;
     line::begin(28);
+    net_costs(book, table, 1);
+    net_costs(book, table, 3);
     quote(book, table);
     commit(book, table, 1, 0);
     line::comma();
@@ -106,7 +120,9 @@ pub(crate) fn last() {
     commit(book, table, 3, 2);
     line::comma();
     line::begin(29);
-    quote(entries::padded(book, STOP, WEIGHT), table);
+    let padded = entries::padded(book, STOP, WEIGHT);
+    net_costs(padded, table, 1);
+    quote(padded, table);
     commit_padded(book, table, 0);
     commit_padded(book, table, 1);
 }

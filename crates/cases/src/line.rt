@@ -24,6 +24,16 @@ pub(crate) fn number(number: u64) {
     io::print_decimal(STDOUT_FILENO, number);
 }
 
+// A space and a number that may be below 0: then a minus sign, and how far below.
+pub(crate) fn signed(value: i64) {
+    if value < 0 {
+        text(b" -");
+        io::print_decimal(STDOUT_FILENO, (-1 - value) as u64 + 1);
+        return;
+    }
+    number(value as u64);
+}
+
 // Document 01's number of a verdict.
 pub(crate) fn verdict(verdict: Verdict) {
     number(base::number(verdict) as u64);

@@ -6,6 +6,7 @@ mod days;
 mod entries;
 mod files;
 mod line;
+mod nets;
 mod prints;
 mod sheets;
 mod tables;
@@ -64,7 +65,7 @@ Days in memory: the numbers of the test, of a fresh book, of the served day and 
 16 accepted, and by each number; legs 10, 0, 15
 17 3 before 6 before 7 before 4 before 5 before 8
 18 into 95 bytes, the same by 8, into 96 and 97
-Books: the number of the test; the number of the costs, least and floor; the number of the quote, and whether the rest of it is 0; the number of the commit, and whether its least is 0 and its book the same.
+Books: the number of the test; the number of the costs, least and floor; the number of the net costs, and whether all are 0; the number of the quote, and whether the rest of it is 0; the number of the commit, and whether its least is 0 and its book the same.
 19 one crane and no call; sixteen and 256
 20 counts, places and tables
 21 a stand named twice, a follower out of range, back to an earlier call
@@ -74,9 +75,9 @@ Books: the number of the test; the number of the costs, least and floor; the num
 25 one crane: crane 0, crane 1 and the highest number; sixteen: crane 15 and crane 16
 26 a fresh one, and that of a refused day
 27 a book filled, quotes and commits accepted, and one more
-Case A before its last call: the number of the quote, crane, metres and least; the number of a commit, its least, and the least of its book.
-28 the quote; cranes 0, 1 and 2; crane 2 to place 3
-29 with entries past the counts that break every rule: the quote; cranes 0 and 1, and whether the book is that of 28 and is 0 past its counts
+Case A before its last call: the number of the net costs, those of cranes 0 and 1, and whether the rest are 0; the number of the quote, crane, metres and least; the number of a commit, its least, and the least of its book.
+28 the net costs, and those of place 3; the quote; cranes 0, 1 and 2; crane 2 to place 3
+29 with entries past the counts that break every rule: the net costs; the quote; cranes 0 and 1, and whether the book is that of 28 and is 0 past its counts
 Prints: the text of the print, then of the sheet, and whether all bytes past each are 0.
 30 case A; one place and one crane; the same and a call
 31 an empty file; 13 bytes; legs missing; legs 10, 26, 15

@@ -20,11 +20,8 @@ listed-requires c κs = search needs
 position-requires : tie.Need-position-requires Inv-loop μ-loop
 position-requires c κs = search needs
 
-work-at-requires : tie.Need-work-at-requires Inv-loop μ-loop
-work-at-requires c κs = search needs
-
-lesser-requires : tie.Need-lesser-requires Inv-loop μ-loop
-lesser-requires c κs = search needs
+work-below-requires : tie.Need-work-below-requires Inv-loop μ-loop
+work-below-requires c κs = search needs
 
 add-code : tie.Need-add-code Inv-loop μ-loop
 add-code c = search needs
@@ -47,8 +44,7 @@ floor-spec =
     loop-holds
     listed-requires
     position-requires
-    work-at-requires
-    lesser-requires
+    work-below-requires
     add-code
     loop-less
     loop-again

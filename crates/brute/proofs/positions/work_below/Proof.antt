@@ -1,15 +1,15 @@
--- `brute::positions::work_at` is safe: the loop ends.
+-- `brute::positions::work_below` is safe: the loop ends.
 -- Assumes nothing.
 use Prim.Native.Nat.{_-_, _≤_}
 use borrow.Author.Needs.{needs}
-use Rattle.brute.proofs.positions.work_at.Statement.{statement}
-use Rattle.brute.proofs.positions.work_at.Tie as tie
+use Rattle.brute.proofs.positions.work_below.Statement.{statement}
+use Rattle.brute.proofs.positions.work_below.Tie as tie
 
 abbrev Inv-loop : tie.InvT-loop
-Inv-loop table size reached end least₀ code₀ code-end least code = code ≤ size .codes
+Inv-loop table size reached end most least₀ code₀ code-end least code = code ≤ size .codes
 
 abbrev μ-loop : tie.MeasureT-loop
-μ-loop table size reached end least₀ code₀ code-end least code = size .codes - code
+μ-loop table size reached end most least₀ code₀ code-end least code = size .codes - code
 
 loop-holds : tie.Need-loop-holds Inv-loop μ-loop
 loop-holds c = search needs
@@ -44,8 +44,8 @@ loop-again c = search needs
 returns : tie.Need-returns Inv-loop μ-loop
 returns c = search needs
 
-pub work-at-spec : {M : Type 1} → statement M
-work-at-spec =
+pub work-below-spec : {M : Type 1} → statement M
+work-below-spec =
     tie.close
     (tie.spec
     Inv-loop
