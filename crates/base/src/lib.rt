@@ -3,7 +3,7 @@
 ghost use mathlib.Core.Path.{_≡_};
 ghost use Rattle.base.specs.Numbers.{numberOf, _then_};
 
-// One case for each row of document 01's refusal table, 1 to 11, and for 12 of paper 3.
+// One case for each row of document 01's refusal table, 1 to 11, for 12 of paper 3 and for 13 of paper 5.
 pub enum Refusal {
     // The length of a file.
     Length,
@@ -29,6 +29,8 @@ pub enum Refusal {
     Buffer,
     // A crane to be sent whose number is not below the number of cranes.
     Crane,
+    // The metres of a crane.
+    Driven,
 }
 
 // The answer of a test: accepted, or the first refusal that applies.
@@ -69,5 +71,6 @@ pub fn number(v: Verdict) -> u8
         Refusal::Weights => 10,
         Refusal::Buffer => 11,
         Refusal::Crane => 12,
+        Refusal::Driven => 13,
     }
 }

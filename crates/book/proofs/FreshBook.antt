@@ -1,21 +1,22 @@
 -- The fresh book of an accepted day is sound. Assumes nothing.
-use Prim.Native.Nat.{ℕ, _+_, _<_, _≤_, zero-le}
+use Prim.Native.Nat.{ℕ, _+_, _*_, _<_, _≤_, zero-le}
 use mathlib.Core.Bool.{true, cond}
 use mathlib.Core.List.{List, []}
 use mathlib.Core.Path.{_≡_, refl, sym, _∙_}
 use borrow.Author.Tests.{lt-ltb, le-leb, eq-eqb, ne-eqb}
 use lib.Dec.{eqb}
 use lib.IntN.{ℤ, pos}
-use lib.ListN.{getD, replicate, getD-replicate}
+use lib.ListN.{length, getD, take, replicate, length-replicate, getD-replicate}
+use lib.Seq.{length-take-le, getD-take}
 use native.Mathlib.Decide.{ℕ-discrete}
 use native.Mathlib.Nat.{add-zero}
 use native.Mathlib.Omega.{arith}
 use Rattle.base.specs.Lists.{upTo, padded}
 use Rattle.base.specs.Metric.{Metric}
 use Rattle.base.specs.Tests.{allBelow}
-use Rattle.base.proofs.Lists.{length-upTo, getD-upTo, getD-padded, take-padded, take-upTo}
+use Rattle.base.proofs.Lists.{length-upTo, getD-upTo, getD-padded, take-padded, take-upTo, replicate-at}
 use Rattle.base.proofs.Tests.{below-all}
-use Rattle.road.specs.Table.{Table, metresOf}
+use Rattle.road.specs.Table.{Table, mostMetres, metresOf}
 use Rattle.road.proofs.Surveyed.{surveyed-metric}
 use Rattle.dayfile.specs.declared.Day.{Day}
 use Rattle.dayfile.specs.Day.{mostCranes, stopsRule, placedRefusal, DayArrays, dayRefusal}
@@ -23,7 +24,8 @@ use Rattle.dayfile.proofs.Limits.{Tested, day-tested, placed-accepted, stops-at
 use Rattle.workfunction.specs.Plan.{mayFollow, follows, followersRule, onceRule, planRule, slackRule, vouchAt, vouchRule, place, legCost}
 use Rattle.workfunction.proofs.Stops.{place-stand}
 use Rattle.workfunction.proofs.Sums.{sum-same, sum-one}
-use Rattle.book.specs.Book.{mostStops, follower, weight, weightRule, rangeRule, bookDay, bookRefusal, freshBook}
+use Rattle.book.specs.Book.{mostStops, follower, weight, weightRule, rangeRule, drivenRule, bookDay, bookRefusal, freshBook}
+use Rattle.book.proofs.Metres.{driven-within}
 
 eqb-both-ways : (a b : ℕ) → eqb a b ≡ eqb b a
 eqb-both-ways a b = either (ℕ-discrete a b)
@@ -78,6 +80,13 @@ module _ (k : ℕ) where
         → vouchRule k k (follower (padded mostStops k (λ j. j) 0)) c (weight (replicate mostStops (pos 0))) ≡ true
     fresh-vouch c self = none-vouch k _ none _ c own self
 
+-- the metres of its cranes: none exceeds any most
+fresh-driven : (k most : ℕ) → k ≤ mostCranes → drivenRule most (take k (replicate mostCranes 0)) ≡ true
+fresh-driven k most few =
+    let none : List ℕ = replicate mostCranes 0 in
+    let long : length (take k none) ≡ k = length-take-le k none (rw length-replicate few) in
+    driven-within most (take k none) (λ j h. rw (getD-take k none j 0 (rw long at h), replicate-at {A = ℕ} mostCranes j 0) zero-le)
+
 module _ (day : Day) (t : Table) (arrays : DayArrays day) (h : dayRefusal day t ≡ 0) where
   abbrev k : ℕ
   k = day .cranes
@@ -125,4 +134,4 @@ module _ (day : Day) (t : Table) (arrays : DayArrays day) (h : dayRefusal day t 
   unfolding bookRefusal freshBook
   fresh-sound =
       rw (fresh-placed, take-padded mostCranes k start 0, started, tests .surveyed .triangles, add-zero k, fresh-plan k, fresh-range k most)
-      (rw (fresh-vouch k most _ no-way))
+      (rw (fresh-vouch k most _ no-way, fresh-driven k (mostMetres * 0) (tests .counts .cranes)))

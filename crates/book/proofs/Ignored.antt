@@ -48,13 +48,13 @@ module _ (a b : Book) (n : ℕ) (t s : Table) (books : SameBook a b)
   past-counts-ignored =
       same-tests _ _ _ _ (same-placed (bookDay a n) (bookDay b n) t s days tables) (λ c.
       let day = day-placed (bookDay a n) t c in
-      rw (books .starts, books .requests, books .stands, books .cranes, books .calls)
+      rw (books .starts, books .requests, books .stands, books .driven, books .cranes, books .calls)
       (same-tests _ _ _ _ refl (λ h.
       same-tests _ _ _ _ (same-triangles n t s tables) (λ w.
       same-tests _ _ _ _ (ap (λ r. unless r 9) (same-plan (b .cranes) (stopsOf b) _ _ (books .plan))) (λ p.
-      same-weights (b .cranes) (stopsOf b) (a .plan) (a .weights) _ _ (b .plan) (b .weights) (unless-zero _ 8 p) (books .plan) (books .weights)
+      same-tests _ _ _ _ (same-weights (b .cranes) (stopsOf b) (a .plan) (a .weights) _ _ (b .plan) (b .weights) (unless-zero _ 8 p) (books .plan) (books .weights)
       (λ q f l m. same-costs (day .counts .place) (startsOf b) (requestsOf b) (standsOf b)
-      (rw (books .starts) at (day .starts)) (rw (books .requests) at (day .requests)) (unless-zero _ 4 h) (metresOf t) (metresOf s) tables q f))))))
+      (rw (books .starts) at (day .starts)) (rw (books .requests) at (day .requests)) (unless-zero _ 4 h) (metresOf t) (metresOf s) tables q f)) (λ w. refl))))))
 
 -- ---- a day
 
@@ -71,6 +71,7 @@ module _ (a b : Day) (t s : Table) (days : SameDay a b) (tables : (u v : ℕ) �
         requests = replicate mostCalls 0;
         plan = padded mostStops (days .cranes i) (λ j. j) 0;
         weights = replicate mostStops (pos 0);
+        driven = replicate mostCranes 0;
       }
 
   -- the fresh book

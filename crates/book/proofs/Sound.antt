@@ -1,6 +1,6 @@
 -- What a sound book gives: its rules, its metres, its stops and stands as the work function takes them, and w of its stands as
 -- the cost of its plan. Assumes nothing.
-use Prim.Native.Nat.{ℕ, _<_, _≤_}
+use Prim.Native.Nat.{ℕ, _*_, _<_, _≤_}
 use mathlib.Core.Bool.{true, and-eq-true-iff}
 use mathlib.Core.List.{List, List·Memᴰ}
 use mathlib.Core.Path.{_≡_, refl}
@@ -9,7 +9,7 @@ use lib.Seq.{length-take-le}
 use Rattle.base.specs.Metric.{Metric}
 use Rattle.base.specs.Numbers.{_then_}
 use Rattle.base.proofs.Numbers.{unless-zero, then-zero, first-of}
-use Rattle.road.specs.Table.{Table, metresOf, triangleRule, legsRefusal, triangleRefusal}
+use Rattle.road.specs.Table.{Table, mostMetres, metresOf, triangleRule, legsRefusal, triangleRefusal}
 use Rattle.road.proofs.Surveyed.{Surveyed, surveyed-metric}
 use Rattle.dayfile.specs.Day.{mostCranes, mostCalls, stopsRule, countsRefusal, stopsRefusal, placedRefusal}
 use Rattle.dayfile.proofs.Limits.{CountsTested, Placed, day-placed, placed-before, placed-accepted, stop-below}
@@ -19,19 +19,21 @@ use Rattle.workfunction.specs.Position.{Position}
 use Rattle.workfunction.proofs.Sums.{slot-of}
 use Rattle.workfunction.proofs.Witness.{witness-work}
 use Rattle.book.specs.declared.Book.{Book}
-use Rattle.book.specs.Book.{startsOf, standsOf, requestsOf, stopsOf, follower, weight, rangeRule, planRefusal, weightsRefusal, BookArrays, bookDay, bookRefusal}
+use Rattle.book.specs.Book.{startsOf, standsOf, requestsOf, drivenOf, stopsOf, follower, weight, rangeRule, planRefusal, weightsRefusal, drivenRule, drivenRefusal, BookArrays, bookDay, bookRefusal}
 
 -- the counts are within the arrays
 pub record Fits (book : Book) : Type 0 where
   pub starts : book .cranes ≤ length (book .starts)
   pub stands : book .cranes ≤ length (book .stands)
   pub requests : book .calls ≤ length (book .requests)
+  pub driven : book .cranes ≤ length (book .driven)
 
 pub fit : {book : Book} → BookArrays book → book .cranes ≤ mostCranes → book .calls ≤ mostCalls → Fits book
 fit arrays cranes calls = record {
   starts = rw (arrays .starts) cranes;
   stands = rw (arrays .stands) cranes;
   requests = rw (arrays .requests) calls;
+  driven = rw (arrays .driven) cranes;
 }
 
 module _ {book : Book} (fits : Fits book) where
@@ -44,6 +46,9 @@ module _ {book : Book} (fits : Fits book) where
   pub requests-long : length (requestsOf book) ≡ book .calls
   requests-long = length-take-le (book .calls) (book .requests) (fits .requests)
 
+  pub driven-long : length (drivenOf book) ≡ book .cranes
+  driven-long = length-take-le (book .cranes) (book .driven) (fits .driven)
+
   pub stops-long : stops (startsOf book) (requestsOf book) ≡ stopsOf book
   stops-long = rw (starts-long, requests-long)
 
@@ -51,17 +56,17 @@ module _ {book : Book} (fits : Fits book) where
 pub placed : (n : ℕ) (l : List ℕ) → stopsRule n l ≡ true → {r : ℕ} → List·Memᴰ r l → r < n
 placed n l rule m = let at = slot-of m in rw (← at .2) (stop-below n l rule (at .0) (at .1))
 
--- "In memory: 3, 6, 7, 4, 5 (starts, calls, stands), 8, 9, 10", one by one
+-- "In memory: 3, 6, 7, 4, 5 (starts, calls, stands), 8, 9, 10", then 13, one by one
 pub book-order : (book : Book) (n : ℕ) (t : Table) → bookRefusal book n t
     ≡ (countsRefusal n (book .cranes) (book .calls) then legsRefusal n t then stopsRefusal n (startsOf book) then
     stopsRefusal n (requestsOf book) then stopsRefusal n (standsOf book) then triangleRefusal n t then
     planRefusal (book .cranes) (stopsOf book) (book .plan) then
     weightsRefusal (book .cranes) (stopsOf book) (book .plan) (book .weights)
-    (legCost (metresOf t) (startsOf book) (requestsOf book) (standsOf book)))
+    (legCost (metresOf t) (startsOf book) (requestsOf book) (standsOf book)) then drivenRefusal (book .calls) (drivenOf book))
 unfolding bookRefusal
 book-order book n t = placed-before (bookDay book n) t _
 
--- "A book is sound if none of 3 to 10 .. applies to it and its table": by its rules
+-- "A book is sound if none of 3 to 10 .. applies to it and its table", nor 13: by its rules
 pub record Sound (book : Book) (n : ℕ) (t : Table) : Type 0 where
   pub counts : CountsTested n (book .cranes) (book .calls)
   pub surveyed : Surveyed n t
@@ -72,6 +77,7 @@ pub record Sound (book : Book) (n : ℕ) (t : Table) : Type 0 where
   pub range : rangeRule (stopsOf book) (weight (book .weights)) ≡ true
   pub vouched : vouchRule (book .cranes) (stopsOf book) (follower (book .plan))
       (legCost (metresOf t) (startsOf book) (requestsOf book) (standsOf book)) (weight (book .weights)) ≡ true
+  pub driven : drivenRule (mostMetres * book .calls) (drivenOf book) ≡ true
 
 module _ {book : Book} {n : ℕ} {t : Table} where
   pub book-sound : bookRefusal book n t ≡ 0 → Sound book n t
@@ -82,7 +88,8 @@ module _ {book : Book} {n : ℕ} {t : Table} where
       let stands = first-of (stopsRule n (standsOf book)) 4 _ (first .1) in
       let triangles = first-of (triangleRule n (metresOf t)) 7 _ (stands .1) in
       let plan = first-of (planRule (book .cranes) (stopsOf book) (follower (book .plan))) 8 _ (triangles .1) in
-      let weights = and-eq-true-iff (rangeRule (stopsOf book) (weight (book .weights))) _ .0 (unless-zero _ 9 (plan .1)) in
+      let weights = first-of _ 9 _ (plan .1) in
+      let both = and-eq-true-iff (rangeRule (stopsOf book) (weight (book .weights))) _ .0 (weights .0) in
       record {
         counts = day .counts;
         surveyed = record { legs = day .legs; triangles = triangles .0 };
@@ -90,8 +97,9 @@ module _ {book : Book} {n : ℕ} {t : Table} where
         requests = day .requests;
         stands = stands .0;
         plan = plan .0;
-        range = weights .0;
-        vouched = weights .1;
+        range = both .0;
+        vouched = both .1;
+        driven = unless-zero _ 12 (weights .1);
       }
 
   pub sound-metric : Sound book n t → Metric n (metresOf t)
@@ -104,7 +112,7 @@ module _ {book : Book} {n : ℕ} {t : Table} where
   pub sound-book : Sound book n t → bookRefusal book n t ≡ 0
   unfolding bookRefusal
   sound-book s =
-      rw (placed-accepted (bookDay book n) t (sound-placed s), s .stands, s .surveyed .triangles, s .plan) (rw (s .range, s .vouched))
+      rw (placed-accepted (bookDay book n) t (sound-placed s), s .stands, s .surveyed .triangles, s .plan) (rw (s .range, s .vouched, s .driven))
 
   module _ (arrays : BookArrays book) (s : Sound book n t) where
     pub sound-fits : Fits book

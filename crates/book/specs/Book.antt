@@ -1,15 +1,16 @@
 -- The book of document 01: the first refusal that applies to it, and the fresh book.
-use Prim.Native.Nat.{ℕ, _+_, _<_}
+use Prim.Native.Nat.{ℕ, _+_, _*_, _<_}
 use mathlib.Core.Bool.{Bool, _&&_}
 use mathlib.Core.List.{List}
 use mathlib.Core.Path.{_≡_}
+use lib.Dec.{leb}
 use lib.IntN.{ℤ, pos, negsuc}
 use lib.ListN.{length, getD, take, replicate}
 use lib.Signed.{leZ}
 use Rattle.base.specs.Lists.{padded}
 use Rattle.base.specs.Numbers.{unless, _then_, unlessRefused, numberOf}
 use Rattle.base.specs.Tests.{allBelow}
-use Rattle.road.specs.Table.{Table, metresOf, triangleRefusal}
+use Rattle.road.specs.Table.{Table, mostMetres, metresOf, triangleRefusal}
 use Rattle.dayfile.specs.Day.{mostCranes, mostCalls, stopsRefusal, placedRefusal, dayRefusal}
 use Rattle.dayfile.specs.declared.Day.{Day}
 use Rattle.workfunction.specs.Plan.{planRule, vouchRule, legCost}
@@ -29,6 +30,10 @@ standsOf book = take (book .cranes) (book .stands)
 
 abbrev pub requestsOf : Book → List ℕ
 requestsOf book = take (book .calls) (book .requests)
+
+-- paper 5: "The book carries the metres driven of every crane"
+abbrev pub drivenOf : Book → List ℕ
+drivenOf book = take (book .cranes) (book .driven)
 
 -- "The stops are the starts and the calls."
 abbrev pub stopsOf : Book → ℕ
@@ -58,11 +63,20 @@ planRefusal k n plan = unless (planRule k n (follower plan)) 9
 abbrev pub weightsRefusal : ℕ → ℕ → List ℕ → List ℤ → (ℕ → ℕ → ℕ) → ℕ
 weightsRefusal k n plan weights c = unless (rangeRule n (weight weights) && vouchRule k n (follower plan) c (weight weights)) 10
 
--- the lengths that a book's arrays of places have by their types: a definition sees an array as a list
+-- no crane's metres exceed the most
+abbrev pub drivenRule : ℕ → List ℕ → Bool
+drivenRule most driven = allBelow (length driven) (λ j. leb (getD driven j 0) most)
+
+-- paper 5: "13 when a crane's metres exceed 1,000,000 times the number of calls"
+abbrev pub drivenRefusal : ℕ → List ℕ → ℕ
+drivenRefusal m driven = unless (drivenRule (mostMetres * m) driven) 13
+
+-- the lengths that a book's arrays by crane and by call have by their types: a definition sees an array as a list
 pub record BookArrays (book : Book) : Type 0 where
   pub starts : length (book .starts) ≡ mostCranes
   pub stands : length (book .stands) ≡ mostCranes
   pub requests : length (book .requests) ≡ mostCalls
+  pub driven : length (book .driven) ≡ mostCranes
 
 -- "Entries past the counts, the road table's included, are ignored on the way in": two books are the same if their counts
 -- and the entries within them are.
@@ -74,22 +88,24 @@ pub record SameBook (a b : Book) : Type 0 where
   pub requests : requestsOf a ≡ requestsOf b
   pub plan : (p : ℕ) → p < stopsOf b → follower (a .plan) p ≡ follower (b .plan) p
   pub weights : (p : ℕ) → p < stopsOf b → weight (a .weights) p ≡ weight (b .weights) p
+  pub driven : drivenOf a ≡ drivenOf b
 
 -- the day of a book, beside n places
 abbrev pub bookDay : Book → ℕ → Day
 bookDay book n = record { places = n; cranes = book .cranes; calls = book .calls; starts = book .starts; requests = book .requests }
 
--- "In memory: 3, 6, 7, 4, 5 (starts, calls, stands), 8, 9, 10". "A book is sound if none of 3 to 10 .. applies to it and its
--- table": where this is 0.
+-- "In memory: 3, 6, 7, 4, 5 (starts, calls, stands), 8, 9, 10"; paper 5: 13 "after the weights; such a book isn't sound". "A book
+-- is sound if none of 3 to 10 .. applies to it and its table", nor 13: where this is 0.
 unfoldable pub bookRefusal : Book → ℕ → Table → ℕ
 bookRefusal book n t =
     placedRefusal (bookDay book n) t then stopsRefusal n (standsOf book) then triangleRefusal n t then
     planRefusal (book .cranes) (stopsOf book) (book .plan) then
     weightsRefusal (book .cranes) (stopsOf book) (book .plan) (book .weights)
-    (legCost (metresOf t) (startsOf book) (requestsOf book) (standsOf book))
+    (legCost (metresOf t) (startsOf book) (requestsOf book) (standsOf book)) then drivenRefusal (book .calls) (drivenOf book)
 
--- "A fresh book has no calls, stands equal to starts, start j followed by stand j, and weights 0; it is sound." "Entries past
--- the counts .. are 0 in a returned .. book". Of the number of cranes and the starts of a day.
+-- "A fresh book has no calls, stands equal to starts, start j followed by stand j, and weights 0; it is sound." Paper 5: the
+-- metres are "0 in a fresh book". "Entries past the counts .. are 0 in a returned .. book". Of the number of cranes and the starts of
+-- a day.
 unfoldable pub freshBook : ℕ → List ℕ → Book
 freshBook k starts =
     record {
@@ -100,6 +116,7 @@ freshBook k starts =
       requests = replicate mostCalls 0;
       plan = padded mostStops k (λ j. j) 0;
       weights = replicate mostStops (pos 0);
+      driven = replicate mostCranes 0;
     }
 
 -- "other results 0"
@@ -113,6 +130,7 @@ emptyBook =
       requests = replicate mostCalls 0;
       plan = replicate mostStops 0;
       weights = replicate mostStops (pos 0);
+      driven = replicate mostCranes 0;
     }
 
 -- the number, 0 where the book is opened; the book

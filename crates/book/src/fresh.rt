@@ -49,6 +49,7 @@ pub(crate) fn book(cranes: usize, starts: [u16; Book::CRANES]) -> Book
         requests: [0; Book::CALLS],
         plan: plan(cranes),
         weights: [0; Book::STOPS],
+        driven: [0; Book::CRANES],
     }
 }
 
@@ -64,5 +65,6 @@ pub(crate) fn none() -> Book
         requests: [0; Book::CALLS],
         plan: [0; Book::STOPS],
         weights: [0; Book::STOPS],
+        driven: [0; Book::CRANES],
     }
 }

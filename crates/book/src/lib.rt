@@ -1,5 +1,6 @@
 // The book of a running day, beside its road table: limits, its test, which makes it sound, and the fresh book of a day. Stands on
 // `base`, `road`, `dayfile` and `workfunction`.
+mod driven;
 mod fresh;
 mod plan;
 mod weights;
@@ -28,6 +29,8 @@ pub struct Book {
     pub plan: [u16; Book::STOPS],
     // The weight of each follower: its dual variable.
     pub weights: [i64; Book::STOPS],
+    // The metres that each crane has driven.
+    pub driven: [u32; Book::CRANES],
 }
 
 // What became of a day for which a book was to be opened: the fresh book, or the refusal and a book of zeros.
@@ -64,8 +67,8 @@ impl Book {
         0
     }
 
-    // The fresh book of a day: no calls, each crane at its start, start j followed by stand j, weights 0; the same test of
-    // the day as for writing it.
+    // The fresh book of a day: no calls, each crane at its start, start j followed by stand j, weights and metres 0; the
+    // same test of the day as for writing it.
     pub fn fresh(day: Day, table: Table) -> Opening
         ensures { λ r. ⌜ opening r ≡ freshOf day table ⌝ }
     {
@@ -83,7 +86,7 @@ impl Book {
         }
     }
 
-    // The whole test of a book against a table: 3, 6, 7, 4, 5 of starts and calls as of a day, 5 of stands, 8, 9, 10.
+    // The whole test of a book against a table: 3, 6, 7, 4, 5 of starts and calls as of a day, 5 of stands, 8, 9, 10, 13.
     pub fn test(self, places: usize, table: Table) -> Verdict
         ensures { λ r. ⌜ numberOf r ≡ bookRefusal self places table ⌝ }
     {
@@ -94,6 +97,7 @@ impl Book {
         let requests = self.requests;
         let plan = self.plan;
         let weights = self.weights;
+        let driven = self.driven;
         let day = Day {
             places,
             cranes,
@@ -118,7 +122,7 @@ impl Book {
         let Verdict::Accepted = planned else {
             return planned;
         };
-        weights::test(
+        let vouched = weights::test(
             &table,
             &starts[..cranes],
             &requests[..calls],
@@ -126,6 +130,8 @@ impl Book {
             stops,
             &plan[..],
             &weights[..],
-        )
+        );
+        let most = Road::METRES * calls as u32;
+        vouched.then(driven::test(most, &driven[..cranes]))
     }
 }

@@ -1,9 +1,11 @@
 // Serves small days by the compiled library and by a brute search over positions. The figures compared are, at every call, the net costs, the
-// quote, the least of the commit and both costs of the new book, and of a day by the quoted cranes those of the served day. Prints what the
-// program tells of document 01's days; for each group how many days were tried and of how many every figure and the sheet agree; and for each
-// group by other cranes than the quoted ones how many were tried, of how many every figure agrees, and how many calls had another crane.
+// quote, the least of the commit, and of the new book both costs and the metres of each crane; and of a day by the quoted cranes those of the
+// served day. Prints what the program tells of document 01's days; for each group how many days were tried and of how many every figure and
+// the sheet agree; and for each group by other cranes than the quoted ones how many were tried, of how many every figure agrees, and how many
+// calls had another crane.
 // Stands on all the libraries here, and on the toolchain's `io` for writing.
 mod days;
+mod drives;
 mod edges;
 mod nets;
 mod past;

@@ -18,7 +18,7 @@ const STOP: u16 = 65_535;
 // No weight within the range.
 const WEIGHT: i64 = -Book::WEIGHT - 1;
 
-// No leg within the limit.
+// No leg and no metres of a crane within the limit.
 const METRES: u32 = 4_294_967_295;
 
 // Such places or followers from an index on.
@@ -35,6 +35,15 @@ fn spoil_weights(weights: &mut [i64], from: usize) {
     let mut i = from;
     while i < weights.len() {
         weights[i] = WEIGHT;
+        i += 1;
+    }
+}
+
+// Such metres from an index on.
+fn spoil_driven(driven: &mut [u32], from: usize) {
+    let mut i = from;
+    while i < driven.len() {
+        driven[i] = METRES;
         i += 1;
     }
 }
@@ -75,11 +84,13 @@ fn spoiled_book(book: Book) -> Book {
     let mut requests = book.requests;
     let mut plan = book.plan;
     let mut weights = book.weights;
+    let mut driven = book.driven;
     spoil_stops(&mut starts, book.cranes);
     spoil_stops(&mut stands, book.cranes);
     spoil_stops(&mut requests, book.calls);
     spoil_stops(&mut plan, stops);
     spoil_weights(&mut weights, stops);
+    spoil_driven(&mut driven, book.cranes);
     Book {
         cranes: book.cranes,
         calls: book.calls,
@@ -88,6 +99,7 @@ fn spoiled_book(book: Book) -> Book {
         requests,
         plan,
         weights,
+        driven,
     }
 }
 
@@ -96,8 +108,13 @@ fn wide(stop: u16) -> i64 {
     stop as i64
 }
 
-// Where the stands, the calls, the plan and the weights begin where they stand behind the starts, one list behind the other, and where
-// they end.
+// The same of metres.
+fn wide_metres(metres: u32) -> i64 {
+    metres as i64
+}
+
+// Where the stands, the calls, the plan, the weights and the metres begin where they stand behind the starts, one list behind the other, and
+// where they end.
 const STANDS: usize = Book::CRANES;
 
 const CALLS: usize = STANDS + Book::CRANES;
@@ -106,11 +123,13 @@ const PLAN: usize = CALLS + Book::CALLS;
 
 const WEIGHTS: usize = PLAN + Book::STOPS;
 
-const ENTRIES: usize = WEIGHTS + Book::STOPS;
+const DRIVEN: usize = WEIGHTS + Book::STOPS;
 
-// The entry at an index, of the starts, the stands, the calls, the plan and the weights one behind the other.
+const ENTRIES: usize = DRIVEN + Book::CRANES;
+
+// The entry at an index of all these lists.
 fn entry(book: Book, i: usize) -> i64
-    requires { ⌜ i < mostCranes + mostCranes + mostCalls + mostStops + mostStops ⌝ }
+    requires { ⌜ i < mostCranes + mostCranes + mostCalls + mostStops + mostStops + mostCranes ⌝ }
 {
     if i < STANDS {
         return wide(book.starts[i]);
@@ -124,7 +143,10 @@ fn entry(book: Book, i: usize) -> i64
     if i < WEIGHTS {
         return wide(book.plan[i - PLAN]);
     }
-    book.weights[i - WEIGHTS]
+    if i < DRIVEN {
+        return book.weights[i - WEIGHTS];
+    }
+    wide_metres(book.driven[i - DRIVEN])
 }
 
 // Whether two books are the same in every entry, those past their counts too.

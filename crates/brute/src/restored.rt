@@ -53,7 +53,7 @@ fn add(before: Group, table: &Table, size: Size, sides: Sides, place: u16, shift
 }
 
 // A random day of five calls too: they are served over its legs and over legs twice as long; the first book comes back over the long
-// legs, with its weights shifted up, not at all, and down.
+// legs, with the metres driven over the short ones, and with its weights shifted up, not at all, and down.
 fn add_day(before: Group, number: usize, places: usize, cranes: usize) -> Group
     requires { ⌜ 0 < places ⌝ }
 {
@@ -66,6 +66,11 @@ fn add_day(before: Group, number: usize, places: usize, cranes: usize) -> Group
     let mut sides = search::day(day, &wide);
     let book = plain.book;
     sides.book = book;
+    let short = plain.desk;
+    let drives = short.drives;
+    let mut desk = sides.desk;
+    desk.drives = drives;
+    sides.desk = desk;
     sides.agree = sides.agree & plain.agree;
     let up = add(before, &wide, size, sides, place, SHIFT);
     let still = add(up, &wide, size, sides, place, 0);

@@ -1,5 +1,7 @@
 // A day's calls by the library and by the brute search, side by side: the net costs and the quote of each are asked, and a crane is committed
 // to it, the quoted one or another.
+use crate::drives;
+use crate::drives::Drives;
 use crate::nets;
 use crate::positions;
 use crate::positions::Leasts;
@@ -25,10 +27,12 @@ const CALLS: usize = 6;
 // A crane is fewer numbers than this behind the quoted one: whole rounds of 1, 2, 3 and 4 cranes.
 const ROUND: u64 = 12;
 
-// What the brute search keeps of a day: the costs of the positions reached and their floor, the cranes' stands and the sum of the drives.
+// What the brute search keeps of a day: the costs of the positions reached and their floor, the cranes' stands and the sum of the drives, of
+// each crane and of all.
 pub struct Desk {
     pub reached: Reached,
     pub stands: Position,
+    pub drives: Drives,
     pub driven: u64,
     pub floor: u64,
 }
@@ -86,9 +90,11 @@ pub(crate) fn agreed(table: &Table, size: Size, sides: Sides) -> Sides {
 // Before the first call, over a book without calls.
 fn begin(table: &Table, size: Size, book: Book) -> Sides {
     let starts = book.starts;
+    let drives = [0; Day::CRANES];
     let desk = Desk {
         reached: positions::begin(size.cranes, starts),
         stands: starts,
+        drives,
         driven: 0,
         floor: 0,
     };
@@ -103,7 +109,7 @@ fn begin(table: &Table, size: Size, book: Book) -> Sides {
         book,
         desk,
         sent,
-        agree: true,
+        agree: drives::alike(book, drives),
         tied: false,
         others: 0,
     };
@@ -143,6 +149,19 @@ fn picked(cranes: usize, quoted: usize, behind: u64) -> usize {
     std::num::wrapping_add_usize(quoted, behind as usize) % cranes
 }
 
+// The desk after a crane has gone to a call, with the positions reached then.
+fn gone(before: Desk, reached: Reached, sent: Sent, place: u16) -> Desk {
+    let stands = before.stands;
+    let drives = before.drives;
+    Desk {
+        reached,
+        stands: positions::with(stands, sent.crane, place),
+        drives: drives::add(drives, sent.crane, sent.metres),
+        driven: std::num::wrapping_add_u64(before.driven, sent.metres),
+        floor: 0,
+    }
+}
+
 // What is done at it: the crane so many numbers behind the quoted one is committed, and the desk follows it.
 fn done(
     table: &Table,
@@ -166,17 +185,14 @@ fn done(
     let committed = commit.verdict;
     let accepted = (base::number(quoted) == 0) & (base::number(committed) == 0);
     let book = commit.book;
-    let desk = Desk {
-        reached,
-        stands: positions::with(stands, crane, place),
-        driven: std::num::wrapping_add_u64(before.driven, moved.metres),
-        floor: 0,
-    };
+    let desk = gone(before, reached, moved, place);
+    let drives = desk.drives;
+    let booked = (commit.least == moved.least) & drives::alike(book, drives);
     Sides {
         book,
         desk,
         sent,
-        agree: sides.agree & accepted & same & (commit.least == moved.least),
+        agree: sides.agree & accepted & same & booked,
         tied: sides.tied | sent.tied,
         others: std::num::wrapping_add_u64(sides.others, (crane != quote.crane) as u64),
     }

@@ -1,4 +1,4 @@
-// Books in memory: sound ones, each refusal and the order 3, 6, 7, 4, 5, 8, 9, 10, then 5, 12 and 7 of a call; and that a refused commit
+// Books in memory: sound ones, each refusal and the order 3, 6, 7, 4, 5, 8, 9, 10, 13, then 5, 12 and 7 of a call; and that a refused commit
 // hands back the book as it was given.
 use crate::calls;
 use crate::days;
@@ -15,6 +15,11 @@ const MOST: i64 = Book::WEIGHT;
 
 const OVER: i64 = Book::WEIGHT + 1;
 
+// The most metres of a crane after 256 calls, and one more.
+const LONGEST: u32 = 256_000_000;
+
+const LONGER: u32 = LONGEST + 1;
+
 // What a case changes in a book.
 const NONE: u32 = 0;
 
@@ -27,6 +32,8 @@ const CALL: u32 = 3;
 const PLAN: u32 = 4;
 
 const WEIGHT: u32 = 5;
+
+const DRIVEN: u32 = 6;
 
 // The tables: two places and a leg of 7 metres; three places that break the triangle rule; the same and a self-leg that is not 0.
 const PAIR: u32 = 0;
@@ -53,7 +60,7 @@ fn next(p: usize) -> u16 {
     ((p % Book::STOPS + 1) % Book::STOPS) as u16
 }
 
-// The book of so many cranes and calls with everyone at place 0 and weights alike, and with all entries of a full book.
+// The book of so many cranes and calls with everyone at place 0, weights alike and no metres, and with all entries of a full book.
 fn full(weight: i64, cranes: usize, calls: usize) -> Book {
     let mut plan = [0; Book::STOPS];
     for p in 0..Book::STOPS {
@@ -68,6 +75,7 @@ fn full(weight: i64, cranes: usize, calls: usize) -> Book {
         requests: [0; Book::CALLS],
         plan,
         weights: [weight; Book::STOPS],
+        driven: [0; Book::CRANES],
     }
 }
 
@@ -87,13 +95,17 @@ fn moved(book: Book, list: u32, at: usize, place: u16) -> Book {
 }
 
 // A book with one entry changed.
-fn changed(book: Book, list: u32, at: usize, value: u16) -> Book {
-    let mut other = moved(book, list, at, value);
+fn changed(book: Book, list: u32, at: usize, value: u32) -> Book {
+    let stop = (value % 65_536) as u16;
+    let mut other = moved(book, list, at, stop);
     if list == PLAN {
-        other.plan[at % Book::STOPS] = value;
+        other.plan[at % Book::STOPS] = stop;
     }
     if list == WEIGHT {
         other.weights[at % Book::STOPS] = value as i64;
+    }
+    if list == DRIVEN {
+        other.driven[at % Book::CRANES] = value;
     }
     other
 }
@@ -128,7 +140,7 @@ fn case(
     calls: usize,
     list: u32,
     at: usize,
-    value: u16,
+    value: u32,
     places: usize,
     kind: u32,
     place: u16,
@@ -192,10 +204,27 @@ pub(crate) fn weights() {
     case(0, 16, 256, WEIGHT, 15, 1, 2, PAIR, 0, 0);
 }
 
-// 3 before 6, 6 before 7, 7 before 4, 4 before 5, 5 before 8, 8 before 9, 9 before 10. Then 10 before 5 of the call's place, that before 12,
-// 12 before 7, and 7.
-pub(crate) fn order() {
+// The most metres that a crane may have after 256 calls, and one more. Then one crane without calls: a metre of its own; and no metres within
+// any limit past it, with a number above it sent.
+pub(crate) fn metres() {
+    let idle = changed(full(0, 1, 0), PLAN, 0, 0);
     line::begin(24);
+    case(0, 16, 256, DRIVEN, 15, LONGEST, 2, PAIR, 0, 0);
+    case(0, 16, 256, DRIVEN, 15, LONGER, 2, PAIR, 0, 0);
+    ask(changed(idle, DRIVEN, 0, 1), 2, table(PAIR), 0, 0);
+    ask(
+        changed(idle, DRIVEN, 1, 4_294_967_295),
+        2,
+        table(PAIR),
+        0,
+        1,
+    );
+}
+
+// 3 before 6, 6 before 7, 7 before 4, 4 before 5, 5 before 8, 8 before 9, 9 before 10, 10 before 13. Then 13 before 5 of the call's place, that
+// before 12, 12 before 7, and 7.
+pub(crate) fn order() {
+    line::begin(25);
     case(0, 0, 256, NONE, 0, 0, 0, PAIR, 0, 0);
     case(0, 17, 257, NONE, 0, 0, 2, PAIR, 0, 0);
     case(0, 16, 257, NONE, 0, 0, 3, OWN, 0, 0);
@@ -203,7 +232,8 @@ pub(crate) fn order() {
     case(0, 16, 256, STAND, 0, 3, 3, BROKEN, 0, 0);
     case(0, 16, 256, PLAN, 1, 2, 3, BROKEN, 0, 0);
     case(OVER, 16, 256, PLAN, 1, 2, 2, PAIR, 0, 0);
-    case(OVER, 16, 256, NONE, 0, 0, 2, PAIR, 2, 0);
+    case(OVER, 16, 256, DRIVEN, 15, LONGER, 2, PAIR, 2, 0);
+    case(0, 16, 256, DRIVEN, 15, LONGER, 2, PAIR, 2, 16);
     case(0, 16, 256, NONE, 0, 0, 2, PAIR, 2, 16);
     case(0, 16, 256, NONE, 0, 0, 2, PAIR, 0, 16);
     case(0, 16, 256, NONE, 0, 0, 2, PAIR, 0, 15);
@@ -211,7 +241,7 @@ pub(crate) fn order() {
 
 // Books with space for the call: one crane, sent itself, and numbers above it; sixteen cranes, the last one sent, and the number above it.
 pub(crate) fn cranes() {
-    line::begin(25);
+    line::begin(26);
     case(3, 1, 0, PLAN, 0, 0, 2, PAIR, 1, 0);
     case(3, 1, 0, PLAN, 0, 0, 2, PAIR, 1, 1);
     case(3, 1, 0, PLAN, 0, 0, 2, PAIR, 1, 18_446_744_073_709_551_615);
@@ -225,11 +255,11 @@ pub(crate) fn fresh() {
     let day = days::day(3, 2, 3, 2, 1);
     let opening = Book::fresh(day, table);
     let refused = Book::fresh(day, tables::three(10, 26, 15));
-    line::begin(26);
+    line::begin(27);
     let book = opening.book;
     let zeros = refused.book;
     ask(book, 3, table, 0, 0);
     ask(zeros, 3, table, 0, 0);
-    line::begin(27);
+    line::begin(28);
     ask(calls::filled(book, table), 3, table, 0, 0);
 }

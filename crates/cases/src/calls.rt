@@ -1,5 +1,5 @@
-// Calls of case A in memory: its book before the last call, with the net costs, the quote and commits of one crane and another; and a full
-// book of its places.
+// Calls of case A in memory: its book before the last call, with the net costs, the quote and commits of one crane and another; the metres
+// after it; and a full book of its places.
 use crate::days;
 use crate::entries;
 use crate::line;
@@ -14,6 +14,9 @@ const STOP: u16 = 65_535;
 
 // No weight within the range.
 const WEIGHT: i64 = -Book::WEIGHT - 1;
+
+// No metres within the limit.
+const METRES: u32 = 4_294_967_295;
 
 // A book grown by calls to quoted cranes, and how many of the quotes and of the commits were accepted.
 pub struct Grown {
@@ -90,24 +93,34 @@ fn commit(book: Book, table: Table, place: u16, crane: usize) -> Book {
     after
 }
 
-// The same of a commit to place 1 of the book with entries past its counts that break every rule. Prints also whether the book returned is
-// the one returned without them, and whether it has 0 past its counts, 1 or 0.
+// A book with entries past its counts that break every rule.
+fn spoiled(book: Book) -> Book {
+    entries::padded(book, STOP, WEIGHT, METRES)
+}
+
+// The same of a commit to place 1 of such a book. Prints also whether the book returned is the one returned without them, and whether it has
+// 0 past its counts, 1 or 0.
 fn commit_padded(book: Book, table: Table, crane: usize) {
     let plain = Dispatch::commit(book, 3, table, 1, crane);
-    let after = commit(entries::padded(book, STOP, WEIGHT), table, 1, crane);
+    let after = commit(spoiled(book), table, 1, crane);
     line::number(entries::same(plain.book, after) as u64);
-    line::number(entries::same(entries::padded(after, 0, 0), after) as u64);
+    line::number(entries::same(entries::padded(after, 0, 0, 0), after) as u64);
     line::comma();
+}
+
+// The book before the last call.
+fn before_last(table: Table) -> Book {
+    let opening = Book::fresh(days::day(3, 2, 3, 2, 1), table);
+    let grown = grow(grow(ungrown(opening.book), table, 1), table, 0);
+    grown.book
 }
 
 // The book before the last call: the net costs, those of a place past the last, and the quote; each crane, a number above them, and that
 // number to a place past the last. Then with other entries past its counts.
 pub(crate) fn last() {
     let table = tables::three(10, 20, 15);
-    let opening = Book::fresh(days::day(3, 2, 3, 2, 1), table);
-    let grown = grow(grow(ungrown(opening.book), table, 1), table, 0);
-    let book = grown.book;
-    line::begin(28);
+    let book = before_last(table);
+    line::begin(29);
     net_costs(book, table, 1);
     net_costs(book, table, 3);
     quote(book, table);
@@ -119,10 +132,33 @@ pub(crate) fn last() {
     line::comma();
     commit(book, table, 3, 2);
     line::comma();
-    line::begin(29);
-    let padded = entries::padded(book, STOP, WEIGHT);
-    net_costs(padded, table, 1);
-    quote(padded, table);
+    line::begin(30);
+    net_costs(spoiled(book), table, 1);
+    quote(spoiled(book), table);
     commit_padded(book, table, 0);
     commit_padded(book, table, 1);
+}
+
+// Prints the metres of cranes 0 and 1, and their sum.
+fn metres(book: Book) {
+    let first = book.driven[0] as u64;
+    let second = book.driven[1] as u64;
+    line::number(first);
+    line::number(second);
+    line::number(std::num::wrapping_add_u64(first, second));
+    line::comma();
+}
+
+// After the last call: the metres by the quoted crane, and by crane 0. Then the sum of the served day.
+pub(crate) fn driven() {
+    let table = tables::three(10, 20, 15);
+    let book = before_last(table);
+    let quoted = grow(ungrown(book), table, 1);
+    let other = Dispatch::commit(book, 3, table, 1, 0);
+    let served = Dispatch::serve_day(days::day(3, 2, 3, 2, 1), table);
+    line::begin(31);
+    metres(quoted.book);
+    metres(other.book);
+    line::number(served.driven);
+    line::comma();
 }

@@ -30,10 +30,12 @@ fn memory() {
     books::counts();
     books::plans();
     books::weights();
+    books::metres();
     books::order();
     books::cranes();
     books::fresh();
     calls::last();
+    calls::driven();
     prints::days();
     prints::refusals();
     sheets::buffers();
@@ -71,21 +73,24 @@ Books: the number of the test; the number of the costs, least and floor; the num
 21 a stand named twice, a follower out of range, back to an earlier call
 22 a crane driven away, and its weight raised
 23 weights
-24 3 before 6 before 7 before 4 before 5 before 8 before 9 before 10, then 5 before 12 before 7
-25 one crane: crane 0, crane 1 and the highest number; sixteen: crane 15 and crane 16
-26 a fresh one, and that of a refused day
-27 a book filled, quotes and commits accepted, and one more
+24 sixteen cranes and 256 calls: 256000000 metres, and one more; one crane and no call: 1 metre, and 4294967295 past the crane
+25 3 before 6 before 7 before 4 before 5 before 8 before 9 before 10 before 13, then 5 before 12 before 7
+26 one crane: crane 0, crane 1 and the highest number; sixteen: crane 15 and crane 16
+27 a fresh one, and that of a refused day
+28 a book filled, quotes and commits accepted, and one more
 Case A before its last call: the number of the net costs, those of cranes 0 and 1, and whether the rest are 0; the number of the quote, crane, metres and least; the number of a commit, its least, and the least of its book.
-28 the net costs, and those of place 3; the quote; cranes 0, 1 and 2; crane 2 to place 3
-29 with entries past the counts that break every rule: the net costs; the quote; cranes 0 and 1, and whether the book is that of 28 and is 0 past its counts
+29 the net costs, and those of place 3; the quote; cranes 0, 1 and 2; crane 2 to place 3
+30 with entries past the counts that break every rule: the net costs; the quote; cranes 0 and 1, and whether the book is that of 29 and is 0 past its counts
+Case A after its last call: the metres of cranes 0 and 1, and their sum.
+31 the quoted crane; crane 0; the sum of the served day
 Prints: the text of the print, then of the sheet, and whether all bytes past each are 0.
-30 case A; one place and one crane; the same and a call
-31 an empty file; 13 bytes; legs missing; legs 10, 26, 15
+32 case A; one place and one crane; the same and a call
+33 an empty file; 13 bytes; legs missing; legs 10, 26, 15
 Sheets: the rows, the number, the length and whether the rest is as before.
-32 case A into 83, 84 and 85 bytes; legs 10, 26, 15 into 83 and 84
-33 no calls into no bytes and into 85
-34 case A, with numbers past the counts that break every rule
-35 the last row of 256 calls; place 63 and crane 15",
+34 case A into 83, 84 and 85 bytes; legs 10, 26, 15 into 83 and 84
+35 no calls into no bytes and into 85
+36 case A, with numbers past the counts that break every rule
+37 the last row of 256 calls; place 63 and crane 15",
     );
 }
 

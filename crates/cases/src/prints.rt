@@ -25,7 +25,7 @@ fn print(file: &[u8]) {
 
 // Case A. Then one place and one crane: no calls, and one call.
 pub(crate) fn days() {
-    line::begin(30);
+    line::begin(32);
     print(
         b"\x01\0\0\0\x01\0\0\0\x0a\0\0\0\x01\0\0\0\x02\0\0\0\x14\0\0\0\x01\0\x01\0\x02\0\0\0\x0f\0\0\0\x02\0\0\0\0\0\0\0\0\0\0\0\x02\0\x02\0\0\0\0\0\0\0\0\0\x03\0\x01\0\0\0\0\0\0\0\0\0\x03\0\0\0\0\0\0\0\0\0\0\0\x03\0\x01\0\0\0\0\0\0\0\0\0",
     );
@@ -35,7 +35,7 @@ pub(crate) fn days() {
 
 // An empty file, 13 bytes, legs missing, and legs 10, 26, 15.
 pub(crate) fn refusals() {
-    line::begin(31);
+    line::begin(33);
     print(b"");
     print(b"\x02\0\0\0\0\0\0\0\0\0\0\0\0");
     print(

@@ -50,13 +50,13 @@ pub(crate) fn buffers() {
     let day = days::day(3, 2, 3, 2, 1);
     let table = tables::three(10, 20, 15);
     let broken = tables::three(10, 26, 15);
-    line::begin(32);
+    line::begin(34);
     write(day, table, 0, 83);
     write(day, table, 0, 84);
     write(day, table, 0, 85);
     write(day, broken, 0, 83);
     write(day, broken, 0, 84);
-    line::begin(33);
+    line::begin(35);
     let idle = days::day(3, 2, 0, 2, 1);
     write(idle, table, 0, 0);
     write(idle, table, 0, 85);
@@ -87,7 +87,7 @@ pub(crate) fn past() {
         starts,
         requests,
     };
-    line::begin(34);
+    line::begin(36);
     write(day, spoiled_table(), 0, 85);
 }
 
@@ -117,7 +117,7 @@ fn far() -> Table {
 
 // Call 255, and a drive and a least as wide as their columns. Then a place and a crane of two digits: the last crane drives the last leg.
 pub(crate) fn widths() {
-    line::begin(35);
+    line::begin(37);
     write(
         to_and_fro(),
         tables::three(1_000_000, 0, 0),

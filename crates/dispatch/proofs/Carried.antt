@@ -7,24 +7,27 @@ use mathlib.Core.Path.{_≡_, ap, _∙_}
 use borrow.Author.Tests.{lt-ltb}
 use lib.IntN.{ℤ, pos}
 use lib.ListN.{length, getD, set, drop}
+use lib.Seq.{getD-take}
+use native.Mathlib.Decide.{decLt}
 use native.Mathlib.Omega.{arith}
 use Rattle.base.proofs.Tests.{below-all}
-use Rattle.road.specs.Table.{Table, metresOf, entry}
+use Rattle.road.specs.Table.{Table, mostMetres, metresOf, entry}
 use Rattle.road.proofs.Surveyed.{Surveyed}
 use Rattle.dayfile.specs.Day.{mostCalls, stopsRule}
-use Rattle.dayfile.proofs.Limits.{CountsTested}
-use Rattle.workfunction.specs.Choice.{moved}
+use Rattle.dayfile.proofs.Limits.{CountsTested, stop-below}
+use Rattle.workfunction.specs.Choice.{moved, drive}
 use Rattle.workfunction.specs.Serving.{Served, servedBy}
 use Rattle.workfunction.proofs.Sums.{entry-in}
 use Rattle.book.specs.declared.Book.{Book}
-use Rattle.book.specs.Book.{mostStops, startsOf, standsOf, requestsOf, stopsOf, follower, weight, BookArrays, SameBook, bookRefusal}
+use Rattle.book.specs.Book.{mostStops, startsOf, standsOf, requestsOf, drivenOf, stopsOf, follower, weight, drivenRule, BookArrays, SameBook, bookRefusal}
 use Rattle.dispatch.specs.declared.insert.Pick.{Pick}
 use Rattle.dispatch.specs.declared.insert.Pick.the-variants.{End}
-use Rattle.dispatch.specs.Commit.{tidied, bookAfter, leastAfter, Committed, Next}
+use Rattle.dispatch.specs.Commit.{tidied, bookAfter, driveOf, leastAfter, Committed, Next}
 use Rattle.dispatch.specs.Insertion.{Kept, Answered, Unmoved}
 use Rattle.dispatch.specs.Legs.{LegTable}
+use Rattle.book.proofs.Metres.{driven-at, driven-more}
 use Rattle.book.proofs.Places.{same-costs}
-use Rattle.book.proofs.Sound.{Fits, starts-long, stands-long, requests-long, stops-long, Sound, sound-book, sound-fits, sound-standing}
+use Rattle.book.proofs.Sound.{Fits, starts-long, stands-long, requests-long, driven-long, stops-long, Sound, sound-book, sound-fits, sound-standing}
 use Rattle.dispatch.proofs.Added.{stands-split, after-added, after-fits}
 use Rattle.dispatch.proofs.Roads.{sound-roads, sound-asked}
 
@@ -54,8 +57,9 @@ rule-of n l placed = below-all _ (length l) (λ i h. lt-ltb (getD l i 0) n (plac
 
 -- a day under way is that of a sound book
 kept-sound : {book : Book} {n : ℕ} {t : Table} {costs : List ℕ} → Fits book → CountsTested n (book .cranes) (book .calls) → Surveyed n t
-    → Kept n (metresOf t) (startsOf book) (requestsOf book) (standsOf book) (book .plan) (book .weights) costs → Sound book n t
-kept-sound {n = n} fits counts surveyed k = let c = rw (starts-long fits, requests-long fits) at (k .certified) in record {
+    → Kept n (metresOf t) (startsOf book) (requestsOf book) (standsOf book) (book .plan) (book .weights) costs
+    → drivenRule (mostMetres * book .calls) (drivenOf book) ≡ true → Sound book n t
+kept-sound {n = n} fits counts surveyed k driven = let c = rw (starts-long fits, requests-long fits) at (k .certified) in record {
   counts = counts;
   surveyed = surveyed;
   starts = rule-of n _ (λ r m. k .asked .day .started .placed m);
@@ -64,6 +68,7 @@ kept-sound {n = n} fits counts surveyed k = let c = rw (starts-long fits, reques
   plan = c .planned;
   range = c .ranged;
   vouched = c .vouched;
+  driven = driven;
 }
 
 module _ {book : Book} {n : ℕ} {t : Table} (arrays : BookArrays book) (s : Sound book n t) {r : ℕ} (on : r < n) (space : book .calls < mostCalls)
@@ -72,7 +77,8 @@ module _ {book : Book} {n : ℕ} {t : Table} (arrays : BookArrays book) (s : Sou
   fits : Fits book
   fits = sound-fits arrays s
 
-  sent : told .crane < book .cranes
+  -- the crane sent is one of the book's
+  pub sent : told .crane < book .cranes
   sent = rw (stands-long fits) at (answered .crane)
 
   room : book .calls < length (book .requests)
@@ -89,13 +95,14 @@ module _ {book : Book} {n : ℕ} {t : Table} (arrays : BookArrays book) (s : Sou
         requests = set (book .requests) (book .calls) r;
         plan = plan;
         weights = weights;
+        driven = set (book .driven) (told .crane) (getD (book .driven) (told .crane) 0 + told .metres);
       }
 
-  is-after : after ≡ bookAfter book (told .crane) r plan weights
+  is-after : after ≡ bookAfter book (told .crane) r (told .metres) plan weights
   unfolding bookAfter
   is-after =
       let there : stands ++ drop (book .cranes) (book .stands) ≡ moved (book .stands) r (told .crane) =
-      rw (answered .there) (stands-split (told .crane) r plan weights fits sent)
+      rw (answered .there) (stands-split (told .crane) r (told .metres) plan weights fits sent)
       in
       λ i. record {
         cranes = book .cranes;
@@ -105,31 +112,56 @@ module _ {book : Book} {n : ℕ} {t : Table} (arrays : BookArrays book) (s : Sou
         requests = set (book .requests) (book .calls) r;
         plan = plan;
         weights = weights;
+        driven = set (book .driven) (told .crane) (getD (book .driven) (told .crane) 0 + told .metres);
       }
+
+  -- the drive is that of the crane sent, and no longer than a leg
+  metres-is : told .metres ≡ drive (metresOf t) (standsOf book) r (told .crane)
+  unfolding servedBy
+  metres-is = ap (λ (x : Served). x .metres) (answered .figures)
+
+  metres-short : told .metres ≤ mostMetres
+  unfolding drive
+  metres-short = rw metres-is (sound-roads s .short _ r (stop-below n (standsOf book) (s .stands) (told .crane) (answered .crane)) on)
+
+  -- every crane's metres have room for the drive, where the entries past the cranes are 0
+  pub driven-room : ((j : ℕ) → book .cranes ≤ j → getD (book .driven) j 0 ≡ 0) → (j : ℕ)
+      → getD (book .driven) j 0 + told .metres ≤ mostMetres * (book .calls + 1)
+  driven-room none j = either (decLt j (book .cranes))
+    where
+      either : Dec (j < book .cranes) → getD (book .driven) j 0 + told .metres ≤ mostMetres * (book .calls + 1)
+      either (yes h) =
+          let old : getD (drivenOf book) j 0 ≤ mostMetres * book .calls =
+          driven-at (mostMetres * book .calls) (drivenOf book) (s .driven) j (rw (driven-long fits) h)
+          in
+          omega (arith, rw (getD-take (book .cranes) (book .driven) j 0 h) at old, metres-short)
+      either (no h) = rw (none j (omega arith)) (omega (arith, metres-short))
 
   -- what is told of the call, where the crane is a given one
   pub committed-after : {old : Book} {crane : ℕ} → pick ≡ End crane → book ≡ tidied old → SameBook book old
       → _≡_ {A = Committed} (record { number = 0; least = told .least; book = after })
-      (record { number = 0; least = leastAfter old n t r crane; book = bookAfter (tidied old) crane r plan weights })
+      (record { number = 0; least = leastAfter old n t r crane; book = bookAfter (tidied old) crane r (driveOf old t r crane) plan weights })
   unfolding servedBy
   committed-after {old} {crane} given e same =
       let to : told .crane ≡ crane = rw given at (answered .chosen) in
       let least : told .least ≡ leastAfter old n t r crane =
       rw (← same .starts, ← same .requests, ← same .stands, ← to) (ap (λ (x : Served). x .least) (answered .figures))
       in
-      let book : after ≡ bookAfter (tidied old) crane r plan weights = rw (← e, ← to) is-after in
+      let way : told .metres ≡ driveOf old t r (told .crane) = metres-is ∙ rw (same .stands) in
+      let book : after ≡ bookAfter (tidied old) crane r (driveOf old t r crane) plan weights = rw (← e, ← to, ← way) is-after in
       λ i. record { number = 0; least = least i; book = book i }
 
-  after-sound : bookRefusal (bookAfter book (told .crane) r plan weights) n t ≡ 0
+  after-sound : bookRefusal (bookAfter book (told .crane) r (told .metres) plan weights) n t ≡ 0
   unfolding bookAfter
   after-sound =
       let k = s .counts in
       let counts : CountsTested n (book .cranes) (book .calls + 1) =
       record { place = k .place; places = k .places; crane = k .crane; cranes = k .cranes; calls = omega arith }
       in
-      let added = after-added (told .crane) r plan weights fits sent room in
-      sound-book (kept-sound {costs = costs} (after-fits (told .crane) r plan weights fits sent room) counts (s .surveyed)
-      (rw (added .stands, added .requests, ← answered .there) (answered .kept)))
+      let added = after-added (told .crane) r (told .metres) plan weights fits sent room in
+      sound-book (kept-sound {costs = costs} (after-fits (told .crane) r (told .metres) plan weights fits sent room) counts (s .surveyed)
+      (rw (added .stands, added .requests, ← answered .there) (answered .kept))
+      (rw (added .driven) (driven-more (book .calls) (drivenOf book) (told .crane) (told .metres) (s .driven) metres-short)))
 
   -- where the entries past the counts were 0
   pub next : Unmoved (length (startsOf book) + length (requestsOf book)) (book .plan) (book .weights) plan weights

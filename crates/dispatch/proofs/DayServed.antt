@@ -134,7 +134,7 @@ fresh-day {day} {t} lengths none =
       none = none;
       lengths = lengths;
       fresh = refl;
-      arrays = record { starts = most; stands = most; requests = length-replicate {A = ℕ} mostCalls 0 };
+      arrays = record { starts = most; stands = most; requests = length-replicate {A = ℕ} mostCalls 0; driven = length-replicate {A = ℕ} mostCranes 0 };
       plan = length-padded mostStops (day .cranes) (λ j. j) 0 (omega arith);
       weights = length-replicate mostStops (pos 0);
     }

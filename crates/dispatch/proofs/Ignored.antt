@@ -14,12 +14,12 @@ use Rattle.dayfile.specs.Day.{mostCranes, mostCalls, stopsRule, dayStarts, dayR
 use Rattle.dayfile.proofs.Ignored.{same-refusal}
 use Rattle.dayfile.proofs.Limits.{Tested, day-tested}
 use Rattle.workfunction.specs.Position.{Position}
-use Rattle.workfunction.proofs.Same.{work-same, floor-same, workThen-same, netCost-same, served-same, serve-same}
+use Rattle.workfunction.proofs.Same.{work-same, floor-same, workThen-same, drive-same, netCost-same, served-same, serve-same}
 use Rattle.book.specs.declared.Book.{Book}
 use Rattle.book.specs.Book.{mostStops, startsOf, standsOf, requestsOf, stopsOf, follower, weight, SameBook}
 use Rattle.book.proofs.Ignored.{past-counts-ignored}
 use Rattle.book.proofs.Sound.{placed, Sound, book-sound}
-use Rattle.dispatch.specs.Commit.{commitRefusal, tidied, leastAfter, Committed, commitOf}
+use Rattle.dispatch.specs.Commit.{commitRefusal, tidied, driveOf, leastAfter, Committed, commitOf}
 use Rattle.dispatch.specs.Costs.{costsOf}
 use Rattle.dispatch.specs.NetCosts.{netsOf}
 use Rattle.dispatch.specs.Quote.{quoteRefusal, quoteOf}
@@ -67,6 +67,7 @@ module _ (a b : Book) (n : ℕ) (t s : Table) (books : SameBook a b)
         requests = kept-same mostCalls (a .requests) (b .requests) 0 (books .calls) (books .requests) i;
         plan = padded-same mostStops (follower (a .plan)) (follower (b .plan)) 0 stops (books .plan) i;
         weights = padded-same mostStops (weight (a .weights)) (weight (b .weights)) (pos 0) stops (books .weights) i;
+        driven = kept-same mostCranes (a .driven) (b .driven) 0 (books .cranes) (books .driven) i;
       }
 
   module _ (r : ℕ) where
@@ -109,6 +110,12 @@ module _ (a b : Book) (n : ℕ) (t s : Table) (books : SameBook a b)
           rw (← books .starts, ← books .requests, ← books .stands)
           (workThen-same tables (started (called .sound)) (requestsOf a) (standing (called .sound)) (called .on) crane)
 
+      -- its drive
+      same-drive : commitRefusal a n t r crane ≡ 0 → driveOf a t r crane ≡ driveOf b s r crane
+      same-drive h =
+          let called : Called a n t r = commit-called h .0 in
+          rw (← books .stands) (drive-same tables (started (called .sound)) (requestsOf a) (standing (called .sound)) (called .on) crane)
+
       -- what is told of it, committed or refused
       pub same-commit-told : (plan plan' : List ℕ) (weights weights' : List ℤ)
           → (commitOf a n t r crane plan weights .number ≡ commitOf b n s r crane plan' weights' .number)
@@ -122,7 +129,7 @@ module _ (a b : Book) (n : ℕ) (t s : Table) (books : SameBook a b)
       pub same-commit : commitRefusal a n t r crane ≡ 0 → (plan : List ℕ) (weights : List ℤ)
           → commitOf a n t r crane plan weights ≡ commitOf b n s r crane plan weights
       unfolding commitOf
-      same-commit h plan weights = rw (h, sym same-commit-number ∙ h, same-least-after h, same-tidied)
+      same-commit h plan weights = rw (h, sym same-commit-number ∙ h, same-least-after h, same-drive h, same-tidied)
 
 -- ---- a day
 

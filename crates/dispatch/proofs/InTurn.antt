@@ -22,6 +22,7 @@ use Rattle.book.specs.declared.Book.{Book}
 use Rattle.book.specs.Book.{startsOf, standsOf, requestsOf, BookArrays, bookRefusal, freshBook, freshOf}
 use Rattle.book.proofs.FreshBook.{fresh-sound}
 use Rattle.book.proofs.Sound.{book-sound}
+use Rattle.dispatch.specs.Commit.{driveOf}
 use Rattle.dispatch.specs.Costs.{costsOf}
 use Rattle.dispatch.specs.InTurn.{callAt, quoteAt, commitAt, InTurn}
 use Rattle.dispatch.specs.Quote.{Quoted, unserved}
@@ -101,9 +102,9 @@ module _ (day : Day) (t : Table) (books : ℕ → Book) (arrays : DayArrays day)
     committed : (commitAt day t books i .number ≡ 0) × (commitAt day t books i .least ≡ quoteAt day t books i .figures .least)
     committed = quote-committed (so .lengths) (day .places) t r (called-quote called) (books (i + 1) .plan) (books (i + 1) .weights)
 
-    added : CallAdded (books i) crane r (books (i + 1))
+    added : CallAdded (books i) crane r (driveOf (books i) t r crane) (books (i + 1))
     added =
-        subst (λ (b : Book). CallAdded (books i) crane r b) (sym (turns .handed i h))
+        subst (λ (b : Book). CallAdded (books i) crane r (driveOf (books i) t r crane) b) (sym (turns .handed i h))
         (commit-added (so .lengths) (day .places) t r crane (called-commit called sent) (books (i + 1) .plan) (books (i + 1) .weights))
 
     turned : Turned (i + 1) (books (i + 1))

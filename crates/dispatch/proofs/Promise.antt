@@ -26,7 +26,7 @@ use Rattle.workfunction.proofs.Position.{distance-self}
 use Rattle.workfunction.proofs.Serving.{serve-least, netCost-most, Bounded, serve-bounded}
 use Rattle.book.specs.declared.Book.{Book}
 use Rattle.book.specs.Book.{startsOf, standsOf, requestsOf, stopsOf, follower, BookArrays, bookRefusal, freshBook}
-use Rattle.dispatch.specs.Commit.{commitRefusal, tidied, bookAfter, leastAfter, commitOf, Next}
+use Rattle.dispatch.specs.Commit.{commitRefusal, tidied, bookAfter, driveOf, leastAfter, commitOf, Next}
 use Rattle.dispatch.specs.Costs.{costsOf}
 use Rattle.dispatch.specs.NetCosts.{netsOf}
 use Rattle.dispatch.specs.Quote.{quoteRefusal, unserved, figuresOf, quoteOf}
@@ -149,16 +149,16 @@ module _ {book : Book} (arrays : BookArrays book) (n : ℕ) (t : Table) (r s : �
   unfolding commitOf
   commit-least-is = rw accepted
 
-  next-is : commitOf book n t r s plan weights .book ≡ bookAfter (tidied book) s r plan weights
+  next-is : commitOf book n t r s plan weights .book ≡ bookAfter (tidied book) s r (driveOf book t r s) plan weights
   unfolding commitOf
   next-is = rw accepted
 
-  -- its cranes are the book's, with crane s at r, which is the last call
-  pub commit-added : CallAdded book s r next
-  commit-added = let c = commit-called accepted in rw next-is (next-added arrays (c .0) (c .1) plan weights)
+  -- its cranes are the book's, with crane s at r, which is the last call, and its drive on its metres
+  pub commit-added : CallAdded book s r (driveOf book t r s) next
+  commit-added = let c = commit-called accepted in rw next-is (next-added arrays (c .0) (c .1) (driveOf book t r s) plan weights)
 
   pub commit-arrays : BookArrays next
-  commit-arrays = let c = commit-called accepted in rw next-is (next-arrays arrays (c .0) (c .1) plan weights)
+  commit-arrays = let c = commit-called accepted in rw next-is (next-arrays arrays (c .0) (c .1) (driveOf book t r s) plan weights)
 
   -- paper 3: "The kept plan must then still be least for the stands so reached." Some movement that ends there costs the least that is told,
   -- and every other, several cranes at a time included, costs at least as much

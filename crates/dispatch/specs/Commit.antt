@@ -9,7 +9,7 @@ use Rattle.base.specs.Lists.{padded}
 use Rattle.base.specs.Numbers.{unless, _then_, unlessRefused, numberOf}
 use Rattle.road.specs.Table.{Table, metresOf}
 use Rattle.dayfile.specs.Day.{mostCranes, mostCalls}
-use Rattle.workfunction.specs.Choice.{moved}
+use Rattle.workfunction.specs.Choice.{moved, drive}
 use Rattle.workfunction.specs.Movement.{work}
 use Rattle.book.specs.declared.Book.{Book}
 use Rattle.book.specs.Book.{mostStops, startsOf, standsOf, requestsOf, stopsOf, follower, weight, bookRefusal}
@@ -36,11 +36,13 @@ tidied book =
       requests = padded mostCalls (book .calls) (λ i. getD (book .requests) i 0) 0;
       plan = padded mostStops (stopsOf book) (follower (book .plan)) 0;
       weights = padded mostStops (stopsOf book) (weight (book .weights)) (pos 0);
+      driven = padded mostCranes (book .cranes) (λ j. getD (book .driven) j 0) 0;
     }
 
--- "Its stand becomes r, r is appended": the book after crane s goes to a call at r, with some plan and some weights
-unfoldable pub bookAfter : Book → ℕ → ℕ → List ℕ → List ℤ → Book
-bookAfter book s r plan weights =
+-- "Its stand becomes r, r is appended"; paper 5: "a commit adds its drive to the crane committed". The book after crane s drives so
+-- many metres to a call at r, with some plan and some weights
+unfoldable pub bookAfter : Book → ℕ → ℕ → ℕ → List ℕ → List ℤ → Book
+bookAfter book s r metres plan weights =
     record {
       cranes = book .cranes;
       calls = book .calls + 1;
@@ -49,7 +51,12 @@ bookAfter book s r plan weights =
       requests = set (book .requests) (book .calls) r;
       plan = plan;
       weights = weights;
+      driven = set (book .driven) s (getD (book .driven) s 0 + metres);
     }
+
+-- its drive, from the stand before the move
+abbrev pub driveOf : Book → Table → ℕ → ℕ → ℕ
+driveOf book t r s = drive (metresOf t) (standsOf book) r s
 
 -- the least then: w with r as the last call, at the stands with crane s at r
 abbrev pub leastAfter : Book → ℕ → Table → ℕ → ℕ → ℕ
@@ -70,7 +77,7 @@ committed r = record { number = numberOf (r .verdict); least = r .least; book = 
 unfoldable pub commitOf : Book → ℕ → Table → ℕ → ℕ → List ℕ → List ℤ → Committed
 commitOf book n t r s plan weights =
     unlessRefused (commitRefusal book n t r s)
-    (record { number = 0; least = leastAfter book n t r s; book = bookAfter (tidied book) s r plan weights })
+    (record { number = 0; least = leastAfter book n t r s; book = bookAfter (tidied book) s r (driveOf book t r s) plan weights })
     (λ m. record { number = m; least = 0; book = book })
 
 -- "of them it holds that the book is sound", and that "entries past the counts .. are 0"

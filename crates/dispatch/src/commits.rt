@@ -11,7 +11,7 @@ use road::Table;
 ghost use mathlib.Core.Path.{_≡_};
 ghost use Prim.Native.Nat.{ℕ};
 ghost use Rattle.base.specs.Numbers.{numberOf};
-ghost use Rattle.dispatch.specs.Commit.{commitRefusal, tidied, bookAfter, leastAfter, committed, Next};
+ghost use Rattle.dispatch.specs.Commit.{commitRefusal, tidied, bookAfter, driveOf, leastAfter, committed, Next};
 
 // The test of the book, then 5 for the place, then 12 for the crane, then 7 for a full book.
 pub(crate) fn test(book: Book, places: usize, table: Table, place: u16, crane: usize) -> Verdict
@@ -41,7 +41,7 @@ pub(crate) fn refused(verdict: Verdict, book: Book) -> Commit
 // A commit that is accepted.
 pub(crate) fn accepted(book: Book, table: &Table, place: u16, crane: usize) -> Commit
     requires { ⌜ ((n : ℕ) × (commitRefusal book n (now table) place crane ≡ 0)) ⌝ }
-    ensures { λ r. ⌜ ((n : ℕ) → commitRefusal book n (now (table .entry)) place crane ≡ 0 → (committed r ≡ record { number = 0; least = leastAfter book n (now (table .entry)) place crane; book = bookAfter (tidied book) crane place (r .book .plan) (r .book .weights) }) × Next (r .book) n (now (table .entry))) ⌝ }
+    ensures { λ r. ⌜ ((n : ℕ) → commitRefusal book n (now (table .entry)) place crane ≡ 0 → (committed r ≡ record { number = 0; least = leastAfter book n (now (table .entry)) place crane; book = bookAfter (tidied book) crane place (driveOf book (now (table .entry)) place crane) (r .book .plan) (r .book .weights) }) × Next (r .book) n (now (table .entry))) ⌝ }
 {
     let tidy = tidy::tidy(book);
     let calls = tidy.calls;
@@ -50,6 +50,7 @@ pub(crate) fn accepted(book: Book, table: &Table, place: u16, crane: usize) -> C
     let mut stands = tidy.stands;
     let mut plan = tidy.plan;
     let mut weights = tidy.weights;
+    let mut driven = tidy.driven;
     let mut costs = legs::zeros();
     legs::of_book(tidy, table, &mut costs[..]);
     let step = serve::serve_call(
@@ -64,6 +65,8 @@ pub(crate) fn accepted(book: Book, table: &Table, place: u16, crane: usize) -> C
         &mut costs[..],
     );
     requests[calls] = place;
+    let sent = step.crane;
+    driven[sent] += step.metres;
     Commit {
         verdict: Verdict::Accepted,
         least: step.least,
@@ -75,6 +78,7 @@ pub(crate) fn accepted(book: Book, table: &Table, place: u16, crane: usize) -> C
             requests,
             plan,
             weights,
+            driven,
         },
     }
 }

@@ -33,6 +33,18 @@ fn clear_weights(from: usize, weights: &mut [i64])
     }
 }
 
+// The same of metres.
+fn clear_driven(from: usize, driven: &mut [u32])
+    requires { ⌜ from ≤ length (now driven) ⌝ }
+    ensures { λ _. ⌜ now (driven .exit) ≡ padded (length (now (driven .entry))) from (λ j. getD (now (driven .entry)) j 0) 0 ⌝ }
+{
+    let mut j = from;
+    while j < driven.len() {
+        driven[j] = 0;
+        j += 1;
+    }
+}
+
 // The book with 0 past its counts.
 pub(crate) fn tidy(book: Book) -> Book
     requires { ⌜ (book .cranes ≤ mostCranes) × (book .calls ≤ mostCalls) ⌝ }
@@ -44,11 +56,13 @@ pub(crate) fn tidy(book: Book) -> Book
     let mut requests = book.requests;
     let mut plan = book.plan;
     let mut weights = book.weights;
+    let mut driven = book.driven;
     clear(book.cranes, &mut starts[..]);
     clear(book.cranes, &mut stands[..]);
     clear(book.calls, &mut requests[..]);
     clear(stops, &mut plan[..]);
     clear_weights(stops, &mut weights[..]);
+    clear_driven(book.cranes, &mut driven[..]);
     Book {
         cranes: book.cranes,
         calls: book.calls,
@@ -57,5 +71,6 @@ pub(crate) fn tidy(book: Book) -> Book
         requests,
         plan,
         weights,
+        driven,
     }
 }

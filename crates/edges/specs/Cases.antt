@@ -28,7 +28,7 @@ pub data Case : Type 0 where
   table : ℕ → List (List ℕ) → ℕ → Case
   -- the bytes of a day file: its refusal, 0 where it is accepted, and the index that goes with it
   file : List ℕ → ℕ → ℕ → Case
-  -- the fresh book of a road table and of starts: its least and its floor
+  -- the fresh book of a road table and of starts: its least and its floor; its metres are 0
   fresh : List (List ℕ) → List ℕ → ℕ → ℕ → Case
   -- a road table, a book and the place of a call: the sum of each crane's move
   sums : List (List ℕ) → Book → ℕ → List ℕ → Case
@@ -36,8 +36,9 @@ pub data Case : Type 0 where
   netted : List (List ℕ) → Book → ℕ → ℕ → List ℤ → Case
   -- the number, the crane, the metres and the least that are quoted
   quoted : List (List ℕ) → Book → ℕ → ℕ → ℕ → ℕ → ℕ → Case
-  -- a crane beside them: the number and the least of its commit, and of the book handed back the stands and the calls
-  committed : List (List ℕ) → Book → ℕ → ℕ → ℕ → ℕ → List ℕ → List ℕ → Case
+  -- a crane beside them: the number and the least of its commit, and of the book handed back the stands, the calls, and the metres, 0 past
+  -- those listed
+  committed : List (List ℕ) → Book → ℕ → ℕ → ℕ → ℕ → List ℕ → List ℕ → List ℕ → Case
   -- the bytes of a day file: all bytes of the print
   print : List ℕ → List ℕ → Case
   -- the bytes of a day file: all bytes of its sheet
@@ -128,6 +129,21 @@ bookA =
       requests = array mostCalls 0 (1 ∷ 0 ∷ []);
       plan = array mostStops 0 (2 ∷ 1 ∷ 3 ∷ 0 ∷ []);
       weights = array mostStops (pos 0) (negℤ (pos 10) ∷ negℤ (pos 5) ∷ pos 0 ∷ negℤ (pos 10) ∷ []);
+      driven = array mostCranes 0 (20 ∷ 0 ∷ []);
+    }
+
+-- a book with other metres
+abbrev withDriven : Book → List ℕ → Book
+withDriven book driven =
+    record {
+      cranes = book .cranes;
+      calls = book .calls;
+      starts = book .starts;
+      stands = book .stands;
+      requests = book .requests;
+      plan = book .plan;
+      weights = book .weights;
+      driven = array mostCranes 0 driven;
     }
 
 unfoldable pub cases : List Case
@@ -172,10 +188,19 @@ cases =
     -- paper 4: "At call 2 of case A it is 10, then −5", and 0 past the two cranes; refused as the quote is, and 0 throughout
     netted (three 10 20 15) bookA 1 0 (array mostCranes (pos 0) (pos 10 ∷ negℤ (pos 5) ∷ [])) ∷
     netted (three 10 20 15) bookA 3 5 (replicate mostCranes (pos 0)) ∷
-    committed (three 10 20 15) bookA 1 0 0 30 (1 ∷ 2 ∷ []) (1 ∷ 0 ∷ 1 ∷ []) ∷
-    committed (three 10 20 15) bookA 1 1 0 15 (0 ∷ 1 ∷ []) (1 ∷ 0 ∷ 1 ∷ []) ∷
-    committed (three 10 20 15) bookA 1 2 12 0 (0 ∷ 2 ∷ []) (1 ∷ 0 ∷ []) ∷
-    committed (three 10 20 15) bookA 3 2 5 0 (0 ∷ 2 ∷ []) (1 ∷ 0 ∷ []) ∷
+    -- paper 5: "a commit adds its drive to the crane committed"
+    committed (three 10 20 15) bookA 1 0 0 30 (1 ∷ 2 ∷ []) (1 ∷ 0 ∷ 1 ∷ []) (30 ∷ 0 ∷ []) ∷
+    committed (three 10 20 15) bookA 1 1 0 15 (0 ∷ 1 ∷ []) (1 ∷ 0 ∷ 1 ∷ []) (20 ∷ 15 ∷ []) ∷
+    committed (three 10 20 15) bookA 1 2 12 0 (0 ∷ 2 ∷ []) (1 ∷ 0 ∷ []) (20 ∷ 0 ∷ []) ∷
+    committed (three 10 20 15) bookA 3 2 5 0 (0 ∷ 2 ∷ []) (1 ∷ 0 ∷ []) (20 ∷ 0 ∷ []) ∷
+    -- paper 5: "13 when a crane's metres exceed 1,000,000 times the number of calls", before the asked place and the crane; past the
+    -- cranes they are ignored, handed back as given by a refused commit, and 0 after one that is accepted
+    quoted one (withDriven (opened one (0 ∷ [])) (1 ∷ [])) 0 13 0 0 0 ∷
+    quoted (three 10 20 15) (withDriven bookA (20 ∷ 2000000 ∷ [])) 1 0 1 15 15 ∷
+    quoted (three 10 20 15) (withDriven bookA (20 ∷ 2000001 ∷ [])) 3 13 0 0 0 ∷
+    committed (three 10 20 15) (withDriven bookA (20 ∷ 2000001 ∷ [])) 3 2 13 0 (0 ∷ 2 ∷ []) (1 ∷ 0 ∷ []) (20 ∷ 2000001 ∷ []) ∷
+    committed (three 10 20 15) (withDriven bookA (20 ∷ 0 ∷ 2000001 ∷ [])) 1 2 12 0 (0 ∷ 2 ∷ []) (1 ∷ 0 ∷ []) (20 ∷ 0 ∷ 2000001 ∷ []) ∷
+    committed (three 10 20 15) (withDriven bookA (20 ∷ 0 ∷ 2000001 ∷ [])) 1 1 0 15 (0 ∷ 1 ∷ []) (1 ∷ 0 ∷ 1 ∷ []) (20 ∷ 15 ∷ []) ∷
     -- "a fresh book: least 0, floor 0": those above, and case A's
     fresh one (0 ∷ []) 0 0 ∷
     fresh (three 10 20 10) (0 ∷ 2 ∷ []) 0 0 ∷
@@ -237,10 +262,11 @@ nets n l c = eqb (c .number) n && sameSigned (c .nets) l
 abbrev figures : ℕ → ℕ → ℕ → ℕ → Quoted → Bool
 figures n s m w q = eqb (q .number) n && eqb (q .figures .crane) s && eqb (q .figures .metres) m && eqb (q .figures .least) w
 
--- this number with this least, and a book with these stands and calls
-abbrev handed : ℕ → ℕ → List ℕ → List ℕ → Committed → Bool
-handed n w stands calls c =
+-- this number with this least, and a book with these stands, calls and metres
+abbrev handed : ℕ → ℕ → List ℕ → List ℕ → List ℕ → Committed → Bool
+handed n w stands calls driven c =
     eqb (c .number) n && eqb (c .least) w && same (standsOf (c .book)) stands && same (requestsOf (c .book)) calls
+    && same (c .book .driven) (array mostCranes 0 driven)
 
 -- what a buffer holds after, with the number and the length
 abbrev output : ℕ → ℕ → List ℕ → Output → Bool
@@ -254,11 +280,13 @@ five r = r .call ∷ r .place ∷ r .crane ∷ r .metres ∷ r .least ∷ []
 unfoldable pub agrees : Case → Bool
 agrees (table n rows r) = eqb (tableRefusal n (roads rows)) r
 agrees (file bs n i) = eqb (readFile bs .number) n && eqb (readFile bs .index) i
-agrees (fresh rows starts w f) = costs w f (costsOf (opened rows starts) (length rows) (roads rows))
+agrees (fresh rows starts w f) =
+    costs w f (costsOf (opened rows starts) (length rows) (roads rows)) && same (opened rows starts .driven) (array mostCranes 0 [])
 agrees (sums rows book r l) = same (moveSums rows book r) l
 agrees (netted rows book r n l) = nets n l (netsOf book (length rows) (roads rows) r)
 agrees (quoted rows book r n s m w) = figures n s m w (quoteOf book (length rows) (roads rows) r)
-agrees (committed rows book r c n w stands calls) = handed n w stands calls (commitOf book (length rows) (roads rows) r c [] [])
+agrees (committed rows book r c n w stands calls driven) =
+    handed n w stands calls driven (commitOf book (length rows) (roads rows) r c [] [])
 agrees (print bs out) = same (printOf bs) out
 agrees (posted bs out) = same (sheetPrintOf bs) out
 agrees (sheet rows starts calls before n k out) = output n k out (sheetOf (dayOf rows starts calls) (roads rows) before)

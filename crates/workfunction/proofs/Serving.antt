@@ -54,6 +54,15 @@ module _ (d : ℕ → ℕ → ℕ) (n : ℕ) (starts : List ℕ) where
   stands-then calls stands (q ∷ rs) r =
       stands-then (calls ++ (q ∷ [])) (moved stands q (choice d n starts calls stands q)) rs r ∙ rw (append-assoc calls (q ∷ []) rs)
 
+  -- and its figures after those of the calls before it
+  pub serve-then : (calls stands rs : List ℕ) (r : ℕ) → serve d n starts calls stands (rs ++ (r ∷ []))
+      ≡ serve d n starts calls stands rs ++ (served d n starts (calls ++ rs) (standsAfter d n starts calls stands rs) r ∷ [])
+  unfolding serve standsAfter
+  serve-then calls stands [] r = rw append-nil
+  serve-then calls stands (q ∷ rs) r =
+      ap (λ (l : List Served). served d n starts calls stands q ∷ l)
+      (serve-then (calls ++ (q ∷ [])) (moved stands q (choice d n starts calls stands q)) rs r ∙ rw (append-assoc calls (q ∷ []) rs))
+
 -- ---- how large the figures become
 
 -- the figures of a call: one of k cranes, a drive no longer than the longest, and a least of no more than most

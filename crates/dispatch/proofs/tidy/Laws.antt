@@ -56,16 +56,18 @@ module _ {A : Type 0} (from : ℕ) (z : A) (old : List A) where
             so .cleared j (omega arith) (omega (arith, so .long)) ∙ sym (getD-padded-past (length old) from (λ k. getD old k z) z j (omega arith))
 
 -- the book of such lists
-pub tidied-by : (book : Book) {starts stands requests plan : List ℕ} {weights : List ℤ}
+pub tidied-by : (book : Book) {starts stands requests plan : List ℕ} {weights : List ℤ} {driven : List ℕ}
     → starts ≡ padded mostCranes (book .cranes) (λ j. getD (book .starts) j 0) 0
     → stands ≡ padded mostCranes (book .cranes) (λ j. getD (book .stands) j 0) 0
     → requests ≡ padded mostCalls (book .calls) (λ i. getD (book .requests) i 0) 0
     → plan ≡ padded mostStops (stopsOf book) (follower (book .plan)) 0
     → weights ≡ padded mostStops (stopsOf book) (weight (book .weights)) (pos 0)
-    → _≡_ {A = Book} (record { cranes = book .cranes; calls = book .calls; starts = starts; stands = stands; requests = requests; plan = plan; weights = weights })
+    → driven ≡ padded mostCranes (book .cranes) (λ j. getD (book .driven) j 0) 0
+    → _≡_ {A = Book}
+    (record { cranes = book .cranes; calls = book .calls; starts = starts; stands = stands; requests = requests; plan = plan; weights = weights; driven = driven })
     (tidied book)
 unfolding tidied
-tidied-by book starts stands requests plan weights = rw (starts, stands, requests, plan, weights)
+tidied-by book starts stands requests plan weights driven = rw (starts, stands, requests, plan, weights, driven)
 
 module _ (book : Book) {tidy : Book} (e : tidy ≡ tidied book) where
   pub tidy-same : Fits book → SameBook tidy book
@@ -80,6 +82,7 @@ module _ (book : Book) {tidy : Book} (e : tidy ≡ tidied book) where
         requests = take-kept mostCalls (book .calls) (book .requests) 0 (fits .requests);
         plan = getD-padded mostStops (stopsOf book) (follower (book .plan)) 0 0;
         weights = getD-padded mostStops (stopsOf book) (weight (book .weights)) (pos 0) (pos 0);
+        driven = take-kept mostCranes (book .cranes) (book .driven) 0 (fits .driven);
       })
 
   pub tidy-refusal : Fits book → (n : ℕ) (t : Table) → bookRefusal tidy n t ≡ bookRefusal book n t
@@ -88,6 +91,10 @@ module _ (book : Book) {tidy : Book} (e : tidy ≡ tidied book) where
   pub tidy-plan : (p : ℕ) → stopsOf tidy ≤ p → follower (tidy .plan) p ≡ 0
   unfolding tidied
   tidy-plan = rw e (getD-padded-past mostStops (stopsOf book) (follower (book .plan)) 0)
+
+  pub tidy-driven : (j : ℕ) → tidy .cranes ≤ j → getD (tidy .driven) j 0 ≡ 0
+  unfolding tidied
+  tidy-driven = rw e (getD-padded-past mostCranes (book .cranes) (λ j. getD (book .driven) j 0) 0)
 
   pub tidy-weights : (b : ℕ) → stopsOf tidy ≤ b → weight (tidy .weights) b ≡ pos 0
   unfolding tidied

@@ -2,7 +2,7 @@
 -- Assumes nothing.
 use Prim.Native.Nat.{ℕ, _<_}
 use mathlib.Core.Bool.{true}
-use mathlib.Core.Path.{_≡_, sym, _∙_}
+use mathlib.Core.Path.{_≡_, sym, ap₂, _∙_}
 use borrow.Author.Needs.{needs}
 use lib.ListN.{length}
 use native.Mathlib.Nat.{le-trans}
@@ -18,7 +18,7 @@ use Rattle.workfunction.proofs.Plan.{plan-facts}
 use Rattle.book.specs.declared.Book.{Book}
 use Rattle.book.specs.Book.{mostStops, startsOf, standsOf, requestsOf, stopsOf, follower, weightsRefusal, bookDay, bookRefusal}
 use Rattle.book.proofs.Places.{same-costs}
-use Rattle.book.proofs.Sound.{Fits, fit, starts-long, stands-long, requests-long}
+use Rattle.book.proofs.Sound.{Fits, fit, starts-long, stands-long, requests-long, driven-long}
 use Rattle.book.proofs.Vouching.{over-legs}
 use Rattle.book.proofs.Book.test.Statement.{statement}
 use Rattle.book.proofs.Book.test.Tie as tie
@@ -38,7 +38,7 @@ by-reading book n t day stands planned =
 
 -- the places of the code from which the others are looked back upon
 abbrev start : tie.After-enum-told → tie.Start
-start c = c .before .before .before .before .before .before .before .before
+start c = c .before .before .before .before .before .before .before .before .before
 
 abbrev first : tie.After-enum-told3 → tie.After-enum-told
 first c = c .before .before .before .before
@@ -48,6 +48,9 @@ second c = c .before .before .before
 
 abbrev third : tie.After-enum-told7 → tie.After-enum-told5
 third c = c .before .before .before .before
+
+abbrev fourth : tie.After-test2 → tie.After-enum-told7
+fourth c = c .before .before .before .before .before .before .before
 
 plan-long : (s : tie.Start) → length (s .args .self .plan) ≡ mostStops
 plan-long s = search needs
@@ -62,7 +65,7 @@ day c = day-placed _ _ (accepts _ _ (c .enum-told .given .1) (c .before .before 
 fits : (c : tie.After-enum-told) → Fits (start c .args .self)
 fits c =
     let counts = day c .counts in
-    fit (record { starts = search needs; stands = search needs; requests = search needs }) (counts .cranes) (counts .calls)
+    fit (record { starts = search needs; stands = search needs; requests = search needs; driven = search needs }) (counts .cranes) (counts .calls)
 
 stand : (c : tie.After-enum-told3) → let a = start (first c) .args in stopsRule (a .places) (standsOf (a .self)) ≡ true
 stand c = unless-zero _ 4 (accepts _ _ (c .enum-told3 .given .1) (c .before .before .test-stops .ensures))
@@ -205,16 +208,38 @@ test-requires-2 c κs =
       below = plan-facts _ _ _ (plan p) .below;
     }
 
+cast-most : tie.Need-cast-most
+cast-most c = omega (arith, day (first (second (third (fourth c)))) .counts)
+
+mul-most : tie.Need-mul-most
+mul-most c = omega (arith, day (first (second (third (fourth c)))) .counts)
+
+array-share-prefix-driven : tie.Need-array-share-prefix-driven
+array-share-prefix-driven c = fits (first (second (third (fourth c)))) .driven
+
+slice-aggregate-test-7 : tie.Need-slice-aggregate-test-7
+slice-aggregate-test-7 c = sym (driven-long (fits (first (second (third (fourth (c .before)))))))
+
+test-requires-3 : tie.Need-test-requires-3
+test-requires-3 c κs = search needs
+
+then-requires : tie.Need-then-requires
+then-requires c κs = search needs
+
 returns-5 : tie.Need-returns-5
 unfolding bookRefusal
 returns-5 c =
-    let p = c .before .before .before .before .before .before .before in
+    let w = c .before .before .before in
+    let p = fourth w in
     let t = third p in
     let f = first (second t) in
     let a = start f .args in
+    let weights =
+    rw (starts-long (fits f)) at (w .test2 .ensures) ∙ by-reading (a .self) _ (a .t3) (day f) (stand (second t)) (plan p)
+    in
     triangles t _ _
     (goes-on _ _ _ _ (p .enum-told7 .given .1) (p .before .before .test .ensures)
-    (rw (starts-long (fits f)) at (c .test2 .ensures) ∙ by-reading (a .self) _ (a .t3) (day f) (stand (second t)) (plan p)))
+    (c .then .ensures ∙ ap₂ _then_ weights (c .before .test3 .ensures)))
 
 pub test-spec : {M : Type 1} → statement M
 test-spec =
@@ -249,4 +274,10 @@ test-spec =
     slice-aggregate-test-5
     slice-aggregate-test-6
     test-requires-2
+    cast-most
+    mul-most
+    array-share-prefix-driven
+    slice-aggregate-test-7
+    test-requires-3
+    then-requires
     returns-5)

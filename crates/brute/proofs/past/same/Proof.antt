@@ -6,10 +6,10 @@ use Rattle.brute.proofs.past.same.Statement.{statement}
 use Rattle.brute.proofs.past.same.Tie as tie
 
 abbrev Inv-loop : tie.InvT-loop
-Inv-loop a b same₀ i₀ same i = i ≤ 832
+Inv-loop a b same₀ i₀ same i = i ≤ 848
 
 abbrev μ-loop : tie.MeasureT-loop
-μ-loop a b same₀ i₀ same i = 832 - i
+μ-loop a b same₀ i₀ same i = 848 - i
 
 loop-holds : tie.Need-loop-holds Inv-loop μ-loop
 loop-holds c = search needs

@@ -7,10 +7,10 @@ use Rattle.cases.proofs.entries.padded.Statement.{statement}
 use Rattle.cases.proofs.entries.padded.Tie as tie
 
 abbrev Inv-loop : tie.InvT-loop
-Inv-loop stop weight other₀ i₀ other i = i ≤ mostStops
+Inv-loop stop weight metres other₀ i₀ other i = i ≤ mostStops
 
 abbrev μ-loop : tie.MeasureT-loop
-μ-loop stop weight other₀ i₀ other i = mostStops - i
+μ-loop stop weight metres other₀ i₀ other i = mostStops - i
 
 loop-holds : tie.Need-loop-holds Inv-loop μ-loop
 loop-holds c = search needs

@@ -27,6 +27,12 @@ weight-at-requires c κs = search needs
 weight-at-requires-2 : tie.Need-weight-at-requires-2 Inv-loop μ-loop
 weight-at-requires-2 c κs = search needs
 
+metres-at-requires : tie.Need-metres-at-requires Inv-loop μ-loop
+metres-at-requires c κs = search needs
+
+metres-at-requires-2 : tie.Need-metres-at-requires-2 Inv-loop μ-loop
+metres-at-requires-2 c κs = search needs
+
 add-i : tie.Need-add-i Inv-loop μ-loop
 add-i c = search needs
 
@@ -50,6 +56,8 @@ same-spec =
     stops-at-requires-2
     weight-at-requires
     weight-at-requires-2
+    metres-at-requires
+    metres-at-requires-2
     add-i
     loop-less
     loop-again

@@ -8,7 +8,7 @@ use lib.IntN.{ℤ}
 use Rattle.base.proofs.Numbers.{zeros-told, accepts, refused-number}
 use Rattle.road.specs.Table.{Table}
 use Rattle.book.specs.declared.Book.{Book}
-use Rattle.dispatch.specs.Commit.{commitRefusal, tidied, bookAfter, leastAfter, Committed, commitOf, Next}
+use Rattle.dispatch.specs.Commit.{commitRefusal, tidied, bookAfter, driveOf, leastAfter, Committed, commitOf, Next}
 use Rattle.dispatch.proofs.Dispatch.commit.Statement.{statement}
 use Rattle.dispatch.proofs.Dispatch.commit.Tie as tie
 
@@ -19,7 +19,7 @@ module _ (book : Book) (n : ℕ) (t : Table) (r s : ℕ) (o : Committed) (plan :
   refused m e h q = (q ∙ rw (← e) (zeros-told m _ (λ x. record { number = x; least = 0; book = book }) h), λ z. absurd (h (e ∙ z)))
 
   accepted : commitRefusal book n t r s ≡ 0
-      → o ≡ record { number = 0; least = leastAfter book n t r s; book = bookAfter (tidied book) s r plan weights }
+      → o ≡ record { number = 0; least = leastAfter book n t r s; book = bookAfter (tidied book) s r (driveOf book t r s) plan weights }
       → o ≡ commitOf book n t r s plan weights
   unfolding commitOf
   accepted h e = rw h e

@@ -1,22 +1,24 @@
 -- `dispatch::commits::accepted` meets its contract: the book with 0 past its counts is a day under way, and the book after the call is made
 -- of what serving it gives. Assumes nothing.
-use Prim.Native.Nat.{ℕ, _*_, _≤_}
+use Prim.Native.Nat.{ℕ, _+_, _*_, _<_, _≤_}
 use mathlib.Core.List.{List}
 use mathlib.Core.Path.{_≡_, refl, sym}
 use borrow.Author.Needs.{needs}
-use lib.ListN.{length}
+use lib.ListN.{length, getD}
 use native.Mathlib.Omega.{arith}
-use Rattle.road.specs.Table.{Table, metresOf, entry}
+use mir.Syntax.{w32}
+use mir.Val.{Fits as Val·Fits}
+use Rattle.road.specs.Table.{Table, mostMetres, metresOf, entry}
 use Rattle.book.specs.declared.Book.{Book}
 use Rattle.book.specs.Book.{mostStops, startsOf, standsOf, requestsOf, BookArrays, SameBook}
 use Rattle.dispatch.specs.Insertion.{Kept}
 use Rattle.dispatch.specs.Legs.{LegTable}
 use Rattle.dispatch.specs.Commit.{commitRefusal}
 use Rattle.dispatch.proofs.Called.{Called, commit-called}
-use Rattle.dispatch.proofs.Carried.{sound-kept, committed-after, next}
+use Rattle.dispatch.proofs.Carried.{sound-kept, sent as Carried·sent, driven-room, committed-after, next}
 use Rattle.book.proofs.Sound.{Fits, fit, starts-long, stands-long, requests-long, book-sound, sound-book, sound-fits}
 use Rattle.dispatch.proofs.Roads.{sound-roads}
-use Rattle.dispatch.proofs.tidy.Laws.{tidy-same, tidy-refusal, tidy-plan, tidy-weights}
+use Rattle.dispatch.proofs.tidy.Laws.{tidy-same, tidy-refusal, tidy-plan, tidy-driven, tidy-weights}
 use Rattle.dispatch.proofs.commits.accepted.Statement.{statement}
 use Rattle.dispatch.proofs.commits.accepted.Tie as tie
 
@@ -31,14 +33,14 @@ Accepted s n = commitRefusal (s .args .book) n (table s) (s .args .place) (s .ar
 fits : (s : tie.Start) (n : ℕ) → Accepted s n → Fits (s .args .book)
 fits s n h =
     let k = commit-called h .0 .sound .counts in
-    fit (record { starts = search needs; stands = search needs; requests = search needs }) (k .cranes) (k .calls)
+    fit (record { starts = search needs; stands = search needs; requests = search needs; driven = search needs }) (k .cranes) (k .calls)
 
 -- the book with 0 past its counts
 abbrev tidy : tie.After-tidy → Book
 tidy t = t .tidy .result
 
 arrays : (t : tie.After-tidy) → BookArrays (tidy t)
-arrays t = record { starts = search needs; stands = search needs; requests = search needs }
+arrays t = record { starts = search needs; stands = search needs; requests = search needs; driven = search needs }
 
 plan-long : (t : tie.After-tidy) → length (tidy t .plan) ≡ mostStops
 plan-long t = search needs
@@ -74,7 +76,7 @@ kept t n h long legs =
 
 -- the places at which the arrays are lent
 abbrev at-costs : tie.After-costs → tie.After-tidy
-at-costs c = c .before .before .before .before .before .before .before
+at-costs c = c .before .before .before .before .before .before .before .before
 
 abbrev at-fill : tie.After-costs2 → tie.After-tidy
 at-fill c = at-costs (c .before .before)
@@ -147,15 +149,42 @@ mul-requests c = omega (arith, tested-so (at-end c) .space)
 array-write-requests : tie.Need-array-write-requests
 array-write-requests c = tested-so (at-end c) .space
 
-add-t31 : tie.Need-add-t31
-add-t31 c = omega (arith, tested-so (at-end c) .space)
+-- the crane sent is one of the book's, and any crane's metres have room for the drive
+sent : (a : tie.After-serve-call) → let b = tidy (at-call (a .before)) in let step = a .serve-call .result in
+    (step .crane < b .cranes) × ((j : ℕ) → getD (b .driven) j 0 + step .metres ≤ mostMetres * (b .calls + 1))
+sent a =
+    let t = at-call (a .before) in
+    let s = t .before in
+    let k = tested-so t in
+    let f = a .before .before .before .before .before .before .before .before in
+    let day = kept t (s .pre .0) (s .pre .1) (omega (arith, f .of-book .kept)) (f .of-book .ensures) in
+    let answered = a .serve-call .ensures .answered (s .pre .0) (metresOf (table s)) (sound-roads (k .sound)) day (k .on) in
+    (Carried·sent (arrays t) (k .sound) (k .on) (k .space) answered, driven-room (arrays t) (k .sound) (k .on) (k .space) answered (tidy-driven _ (t .tidy .ensures)))
+
+room : (a : tie.After-serve-call) (j : ℕ) → let b = tidy (at-call (a .before)) in Val·Fits w32 (getD (b .driven) j 0 + a .serve-call .result .metres)
+room a j = omega (arith, sent a .1 j, tested-so (at-call (a .before)) .space)
+
+mul-driven : tie.Need-mul-driven
+mul-driven c = omega (arith, sent (c .before .before .before .before) .0, tested-so (at-end c) .sound .counts)
+
+array-read-driven : tie.Need-array-read-driven
+array-read-driven c = omega (arith, sent (c .before .before .before .before) .0, tested-so (at-end c) .sound .counts)
+
+add-driven : tie.Need-add-driven
+add-driven c = room (c .before .before .before .before .before) _
+
+array-write-driven : tie.Need-array-write-driven
+array-write-driven c = omega (arith, sent (c .before .before .before .before .before) .0, tested-so (at-end (c .before)) .sound .counts)
+
+add-t33 : tie.Need-add-t33
+add-t33 c = omega (arith, tested-so (at-end (c .before)) .space)
 
 returns : tie.Need-returns
 returns c = λ n h.
-    let t = at-end c in
+    let t = at-end (c .before) in
     let k = tested t n h in
     let e = t .tidy .ensures in
-    let a = c .before .before .before .before in
+    let a = c .before .before .before .before .before in
     let f = a .before .before .before .before .before .before .before .before in
     let day = kept t n h (omega (arith, f .of-book .kept)) (f .of-book .ensures) in
     let answered = a .serve-call .ensures .answered n (metresOf (table (t .before))) (sound-roads (k .sound)) day (k .on) in (
@@ -183,5 +212,9 @@ accepted-spec =
     serve-call-requires
     mul-requests
     array-write-requests
-    add-t31
+    mul-driven
+    array-read-driven
+    add-driven
+    array-write-driven
+    add-t33
     returns)

@@ -8,7 +8,7 @@ use Rattle.dispatch.proofs.cost.floor.Statement.{statement}
 use Rattle.dispatch.proofs.cost.floor.Tie as tie
 
 arrays : (s : tie.Start) → BookArrays (s .args .book)
-arrays s = record { starts = search needs; stands = search needs; requests = search needs }
+arrays s = record { starts = search needs; stands = search needs; requests = search needs; driven = search needs }
 
 -- the book is sound
 sound : (s : tie.Start) → Sound (s .args .book) (s .pre .0) (s .args .table .now)

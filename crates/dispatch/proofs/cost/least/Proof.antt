@@ -15,7 +15,7 @@ use Rattle.dispatch.proofs.cost.least.Statement.{statement}
 use Rattle.dispatch.proofs.cost.least.Tie as tie
 
 arrays : (s : tie.Start) → BookArrays (s .args .book)
-arrays s = record { starts = search needs; stands = search needs; requests = search needs }
+arrays s = record { starts = search needs; stands = search needs; requests = search needs; driven = search needs }
 
 plan-long : (s : tie.Start) → length (s .args .book .plan) ≡ mostStops
 plan-long s = search needs

@@ -13,7 +13,7 @@ given s = record {
   none = s .pre .0;
   lengths = record { starts = search needs; requests = search needs };
   fresh = s .pre .1;
-  arrays = record { starts = search needs; stands = search needs; requests = search needs };
+  arrays = record { starts = search needs; stands = search needs; requests = search needs; driven = search needs };
   plan = search needs;
   weights = search needs;
 }

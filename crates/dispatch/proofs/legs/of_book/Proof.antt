@@ -11,7 +11,7 @@ abbrev start : tie.After-stands → tie.Start
 start c = c .before .before .before .before
 
 fits : (c : tie.After-stands) → Fits (start c .args .book)
-fits c = fit (record { starts = search needs; stands = search needs; requests = search needs }) (start c .pre .0) (start c .pre .1 .0)
+fits c = fit (record { starts = search needs; stands = search needs; requests = search needs; driven = search needs }) (start c .pre .0) (start c .pre .1 .0)
 
 array-share-prefix-starts : tie.Need-array-share-prefix-starts
 array-share-prefix-starts c = fits c .starts

@@ -26,7 +26,7 @@ abbrev table : tie.Start → Table
 table s = s .args .table .now
 
 arrays : (s : tie.Start) → BookArrays (s .args .book)
-arrays s = record { starts = search needs; stands = search needs; requests = search needs }
+arrays s = record { starts = search needs; stands = search needs; requests = search needs; driven = search needs }
 
 plan-long : (s : tie.Start) → length (s .args .book .plan) ≡ mostStops
 plan-long s = search needs

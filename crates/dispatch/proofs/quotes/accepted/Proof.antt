@@ -23,7 +23,7 @@ called : (s : tie.Start) → Called (s .args .book) (s .pre .0) (s .args .table 
 called s = quote-called (s .pre .1)
 
 arrays : (s : tie.Start) → BookArrays (s .args .book)
-arrays s = record { starts = search needs; stands = search needs; requests = search needs }
+arrays s = record { starts = search needs; stands = search needs; requests = search needs; driven = search needs }
 
 plan-long : (s : tie.Start) → length (s .args .book .plan) ≡ mostStops
 plan-long s = search needs

@@ -11,7 +11,7 @@ use Rattle.dispatch.proofs.tidy.tidy.Tie as tie
 
 -- the lengths of the arrays, and the entry from the place where the first is lent
 arrays : (s : tie.Start) → BookArrays (s .args .book)
-arrays s = record { starts = search needs; stands = search needs; requests = search needs }
+arrays s = record { starts = search needs; stands = search needs; requests = search needs; driven = search needs }
 
 plan-long : (s : tie.Start) → length (s .args .book .plan) ≡ mostStops
 plan-long s = search needs
@@ -20,7 +20,7 @@ weights-long : (s : tie.Start) → length (s .args .book .weights) ≡ mostStops
 weights-long s = search needs
 
 abbrev start : tie.After-starts2 → tie.Start
-start c = c .before .before .before .before .before .before .before
+start c = c .before .before .before .before .before .before .before .before
 
 abbrev first : tie.After-stands2 → tie.After-clear
 first c = c .before .before
@@ -33,6 +33,9 @@ third c = c .before .before
 
 abbrev fourth : tie.After-weights2 → tie.After-clear4
 fourth c = c .before .before
+
+abbrev fifth : tie.After-driven2 → tie.After-clear-weights
+fifth c = c .before .before
 
 add-stops : tie.Need-add-stops
 add-stops c = search needs
@@ -69,9 +72,18 @@ clear-weights-requires c κs =
     let s = start (first (second (third (fourth c .before) .before) .before) .before) in
     omega (arith, weights-long s, s .pre)
 
+slice-aggregate-clear-driven : tie.Need-slice-aggregate-clear-driven
+slice-aggregate-clear-driven c = search needs
+
+clear-driven-requires : tie.Need-clear-driven-requires
+clear-driven-requires c κs =
+    let s = start (first (second (third (fourth (fifth c .before) .before) .before) .before) .before) in
+    omega (arith, arrays s .driven, s .pre)
+
 returns : tie.Need-returns
 returns c =
-    let w = c .before in
+    let d = c .before in
+    let w = fifth (d .before) in
     let p = fourth (w .before) in
     let r = third (p .before) in
     let q = second (r .before) in
@@ -79,7 +91,7 @@ returns c =
     let s = start (t .before) in
     let a = arrays s in
     tidied-by (s .args .book) (t .clear .ensures ∙ rw (a .starts)) (q .clear2 .ensures ∙ rw (a .stands)) (r .clear3 .ensures ∙ rw (a .requests))
-    (p .clear4 .ensures ∙ rw (plan-long s)) (w .clear-weights .ensures ∙ rw (weights-long s))
+    (p .clear4 .ensures ∙ rw (plan-long s)) (w .clear-weights .ensures ∙ rw (weights-long s)) (d .clear-driven .ensures ∙ rw (a .driven))
 
 pub tidy-spec : {M : Type 1} → statement M
 tidy-spec =
@@ -96,4 +108,6 @@ tidy-spec =
     clear-requires-4
     slice-aggregate-clear-weights
     clear-weights-requires
+    slice-aggregate-clear-driven
+    clear-driven-requires
     returns)

@@ -1,0 +1,4 @@
+pub mod History
+pub mod Grown
+pub mod AsQuoted
+pub mod InTurn
