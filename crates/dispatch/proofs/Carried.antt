@@ -116,13 +116,13 @@ module _ {book : Book} {n : ℕ} {t : Table} (arrays : BookArrays book) (s : Sou
       }
 
   -- the drive is that of the crane sent, and no longer than a leg
-  metres-is : told .metres ≡ drive (metresOf t) (standsOf book) r (told .crane)
+  drive-is : told .metres ≡ drive (metresOf t) (standsOf book) r (told .crane)
   unfolding servedBy
-  metres-is = ap (λ (x : Served). x .metres) (answered .figures)
+  drive-is = ap (λ (x : Served). x .metres) (answered .figures)
 
-  metres-short : told .metres ≤ mostMetres
+  drive-short : told .metres ≤ mostMetres
   unfolding drive
-  metres-short = rw metres-is (sound-roads s .short _ r (stop-below n (standsOf book) (s .stands) (told .crane) (answered .crane)) on)
+  drive-short = rw drive-is (sound-roads s .short _ r (stop-below n (standsOf book) (s .stands) (told .crane) (answered .crane)) on)
 
   -- every crane's metres have room for the drive, where the entries past the cranes are 0
   pub driven-room : ((j : ℕ) → book .cranes ≤ j → getD (book .driven) j 0 ≡ 0) → (j : ℕ)
@@ -134,8 +134,8 @@ module _ {book : Book} {n : ℕ} {t : Table} (arrays : BookArrays book) (s : Sou
           let old : getD (drivenOf book) j 0 ≤ mostMetres * book .calls =
           driven-at (mostMetres * book .calls) (drivenOf book) (s .driven) j (rw (driven-long fits) h)
           in
-          omega (arith, rw (getD-take (book .cranes) (book .driven) j 0 h) at old, metres-short)
-      either (no h) = rw (none j (omega arith)) (omega (arith, metres-short))
+          omega (arith, rw (getD-take (book .cranes) (book .driven) j 0 h) at old, drive-short)
+      either (no h) = rw (none j (omega arith)) (omega (arith, drive-short))
 
   -- what is told of the call, where the crane is a given one
   pub committed-after : {old : Book} {crane : ℕ} → pick ≡ End crane → book ≡ tidied old → SameBook book old
@@ -147,7 +147,7 @@ module _ {book : Book} {n : ℕ} {t : Table} (arrays : BookArrays book) (s : Sou
       let least : told .least ≡ leastAfter old n t r crane =
       rw (← same .starts, ← same .requests, ← same .stands, ← to) (ap (λ (x : Served). x .least) (answered .figures))
       in
-      let way : told .metres ≡ driveOf old t r (told .crane) = metres-is ∙ rw (same .stands) in
+      let way : told .metres ≡ driveOf old t r (told .crane) = drive-is ∙ rw (same .stands) in
       let book : after ≡ bookAfter (tidied old) crane r (driveOf old t r crane) plan weights = rw (← e, ← to, ← way) is-after in
       λ i. record { number = 0; least = least i; book = book i }
 
@@ -161,7 +161,7 @@ module _ {book : Book} {n : ℕ} {t : Table} (arrays : BookArrays book) (s : Sou
       let added = after-added (told .crane) r (told .metres) plan weights fits sent room in
       sound-book (kept-sound {costs = costs} (after-fits (told .crane) r (told .metres) plan weights fits sent room) counts (s .surveyed)
       (rw (added .stands, added .requests, ← answered .there) (answered .kept))
-      (rw (added .driven) (driven-more (book .calls) (drivenOf book) (told .crane) (told .metres) (s .driven) metres-short)))
+      (rw (added .driven) (driven-more (book .calls) (drivenOf book) (told .crane) (told .metres) (s .driven) drive-short)))
 
   -- where the entries past the counts were 0
   pub next : Unmoved (length (startsOf book) + length (requestsOf book)) (book .plan) (book .weights) plan weights

@@ -131,7 +131,7 @@ module _ (day : Day) (t : Table) (arrays : DayArrays day) where
     pub grown-driven : (j : ℕ) → j < book .cranes → getD (book .driven) j 0 ≡ drivenBy j h
     grown-driven j lt = sym (getD-take (book .cranes) (book .driven) j 0 lt) ∙ told .driven j lt
 
-  -- each drive is that of (driveTo book t r s) crane of the book
+  -- each drive is that of a crane of the book, so the sums by crane leave none out
   all-driven : {book : Book} {h : List Drive} → Grown day t book h → sumBelow (day .cranes) (λ j. drivenBy j h) ≡ sumOf h
   unfolding filter sumOf
   all-driven (opened accepted e) = sum-zero (day .cranes)
