@@ -1,107 +1,122 @@
--- The laws of the number of places, of an entry, and of the rules of legs and triangles over the metres d.
+-- The laws of the number of places and of legs, of the metres of a table, and of the rule of its legs.
 -- Assumes nothing.
-use Prim.Native.Nat.{ℕ, _+_, _<_, _≤_}
-use mathlib.Core.Bool.{true, false, _&&_, and-eq-true-iff, and-false}
+use Prim.Native.Nat.{ℕ, zero, suc, _+_, _*_, _<_, _≤_, zero-le}
+use mathlib.Core.Bool.{true, and-false, and-comm}
+use mathlib.Core.Logic.{⊎-elim}
 use mathlib.Core.Path.{_≡_, refl, sym, ap, _∙_}
-use borrow.Author.Tests.{leb-true, eq-eqb, ne-eqb, eqb-true, lt-ltb, le-ltb}
+use borrow.Author.Tests.{leb-true, le-leb, lt-ltb, le-ltb, eqb-true}
 use lib.Dec.{ltb, eqb}
-use native.Mathlib.Decide.{ℕ-discrete}
+use lib.ListN.{length, getD, List·getD-eq-default}
+use native.Mathlib.Decide.{decLt}
+use native.Mathlib.Nat.{mul-comm, mul-suc, add-mul-div-right, zero-lt-suc, not-suc-le-zero, le-of-suc-le-suc, le-of-lt, le-of-eq, eq-or-lt-of-le}
+use native.Mathlib.Numerals.{add-one, sub-one}
 use native.Mathlib.Omega.{arith}
 use Rattle.base.specs.declared.Verdict.{Verdict}
 use Rattle.base.specs.declared.Verdict.the-variants.{Accepted}
-use Rattle.base.specs.Metric.{Metric}
 use Rattle.base.specs.Numbers.{numberOf}
-use Rattle.base.specs.Tests.{allBelow}
-use Rattle.base.proofs.Numbers.{holds}
-use Rattle.base.proofs.Tests.{by-order, within-most, below-at, below-all, below-same}
-use Rattle.road.specs.Table.{mostPlaces, mostMetres, entry, placesRule, placesRefusal, metresRule, legRule, legsRule, wayRule, triangleRule}
+use Rattle.base.proofs.Numbers.{accepts, holds, first-of, unless-zero}
+use Rattle.base.proofs.Tests.{by-order, within-most, below-at, below-all}
+use Rattle.road.specs.Table.{Table, mostPlaces, mostMetres, mostLegs, legCount, legIndex, legsOf, metresOf, entry, placesRule, placesRefusal, runRefusal, metresRule, legsRule}
+
+twice : (w : ℕ) → suc (suc w) * suc w ≡ suc w * w + suc w * 2
+twice w = mul-comm (suc (suc w)) (suc w) ∙ mul-suc (suc w) (suc w) ∙ ap (λ (p : ℕ). p + suc w) (mul-suc (suc w) w) ∙ omega arith
+
+-- each place has a leg from every earlier one
+pub leg-count-suc : (v : ℕ) → legCount (suc v) ≡ legCount v + v
+unfolding legCount
+leg-count-suc zero = refl
+leg-count-suc (suc w) =
+    rw (sub-one (suc (suc w)), sub-one (suc w), twice w) (add-mul-div-right (suc w * w) (suc w) (zero-lt-suc 1))
+
+pub leg-count-more : (v : ℕ) → legCount (v + 1) ≡ legCount v + v
+leg-count-more v = rw add-one (leg-count-suc v)
+
+pub all-legs : legCount mostPlaces ≡ mostLegs
+unfolding legCount
+all-legs = refl
+
+-- the legs to v come before those to a later place
+pub legs-before : (v n : ℕ) → v < n → legCount v + v ≤ legCount n
+legs-before v zero p = absurd (not-suc-le-zero p)
+legs-before v (suc n) p =
+    ⊎-elim (λ (e : v ≡ n). omega (arith, ap legCount e, leg-count-suc n)) (λ (l : v < n). omega (arith, legs-before v n l, leg-count-suc n))
+    (eq-or-lt-of-le (le-of-suc-le-suc p))
+
+pub leg-count-most : (n : ℕ) → n ≤ mostPlaces → legCount n ≤ mostLegs
+leg-count-most n p =
+    ⊎-elim (λ (e : n ≡ mostPlaces). omega (arith, ap legCount e, all-legs)) (λ (l : n < mostPlaces). omega (arith, legs-before n mostPlaces l, all-legs)) (eq-or-lt-of-le p)
+
+-- the legs of a table that may be
+pub legs-counted : (n : ℕ) → n ≤ mostPlaces → legsOf n ≡ legCount n
+legs-counted n p = rw (le-leb n mostPlaces p)
 
 module _ (d : ℕ → ℕ → ℕ) (u v : ℕ) where
   pub entry-in : u < mostPlaces → v < mostPlaces → entry d u v ≡ d u v
   unfolding entry
   entry-in p q = rw (lt-ltb u mostPlaces p, lt-ltb v mostPlaces q)
 
-  pub entry-past-rows : mostPlaces ≤ u → entry d u v ≡ 0
+  pub entry-past : mostPlaces ≤ v → entry d u v ≡ 0
   unfolding entry
-  entry-past-rows p = rw (le-ltb u mostPlaces p)
+  entry-past p = rw (le-ltb v mostPlaces p, and-false (ltb u mostPlaces))
 
-  pub entry-past-columns : mostPlaces ≤ v → entry d u v ≡ 0
+  -- what is the same both ways is read so
+  pub entry-both : d u v ≡ d v u → entry d u v ≡ entry d v u
   unfolding entry
-  entry-past-columns p = rw (le-ltb v mostPlaces p, and-false (ltb u mostPlaces))
+  entry-both e = rw (e, and-comm (ltb u mostPlaces) (ltb v mostPlaces))
 
-  self-leg : u ≡ v → legRule d u v ≡ eqb (d u v) 0
-  unfolding legRule
-  self-leg p = rw (eq-eqb u v p)
+module _ (t : Table) (u v : ℕ) where
+  pub metres-up : u < v → metresOf t u v ≡ getD t (legIndex u v) 0
+  unfolding metresOf
+  metres-up p = rw (lt-ltb u v p)
 
-  other-leg : (u ≡ v → ⊥) → legRule d u v ≡ (eqb (d u v) (d v u) && metresRule (d u v))
-  unfolding legRule
-  other-leg p = rw (ne-eqb u v p)
+  pub metres-down : v < u → metresOf t u v ≡ getD t (legIndex v u) 0
+  unfolding metresOf
+  metres-down p = rw (le-ltb u v (le-of-lt p), lt-ltb v u p)
 
-  pub self-leg-zero : u ≡ v → d u v ≡ 0 → legRule d u v ≡ true
-  self-leg-zero p q = self-leg p ∙ eq-eqb (d u v) 0 q
+  pub metres-self : u ≡ v → metresOf t u v ≡ 0
+  unfolding metresOf
+  metres-self e = rw (le-ltb u v (le-of-eq (sym e)), le-ltb v u (le-of-eq e))
 
-  pub self-leg-long : u ≡ v → (d u v ≡ 0 → ⊥) → legRule d u v ≡ false
-  self-leg-long p q = self-leg p ∙ ne-eqb (d u v) 0 q
-
-  pub leg-even : (u ≡ v → ⊥) → d u v ≡ d v u → legRule d u v ≡ metresRule (d u v)
-  leg-even p q = other-leg p ∙ rw (eq-eqb (d u v) (d v u) q)
-
-  pub leg-uneven : (u ≡ v → ⊥) → (d u v ≡ d v u → ⊥) → legRule d u v ≡ false
-  leg-uneven p q = other-leg p ∙ rw (ne-eqb (d u v) (d v u) q)
-
-  leg-both-ways : legRule d u v ≡ true → d u v ≡ d v u
-  leg-both-ways h = either (ℕ-discrete u v)
-    where
-      either : Dec (u ≡ v) → d u v ≡ d v u
-      either (yes e) = rw e
-      either (no ne) = eqb-true (d u v) (d v u) (and-eq-true-iff (eqb (d u v) (d v u)) (metresRule (d u v)) .0 (sym (other-leg ne) ∙ h) .0)
+pub metres-both : (t : Table) (u v : ℕ) → metresOf t u v ≡ metresOf t v u
+metres-both t u v = by-order u v
+    (λ (l : u < v). metres-up t u v l ∙ sym (metres-down t v u l))
+    (λ (e : u ≡ v). metres-self t u v e ∙ sym (metres-self t v u (sym e)))
+    (λ (l : v < u). metres-down t u v l ∙ sym (metres-up t v u l))
 
 -- an accepted number of places
 pub few-places : (v : Verdict) (n : ℕ) → v ≡ Accepted → numberOf v ≡ placesRefusal n → n ≤ mostPlaces
 few-places v n e h = within-most 1 mostPlaces n (holds v (placesRule n) 2 e h)
 
+-- an accepted run has the legs of its places
+pub run-accepted : (n l : ℕ) → runRefusal n l ≡ 0 → (placesRule n ≡ true) × (l ≡ legCount n)
+unfolding runRefusal
+run-accepted n l h =
+    let both = first-of (placesRule n) 2 _ h in
+    (both .0, eqb-true l (legCount n) (unless-zero (eqb l (legCount n)) 2 (both .1)))
+
+pub run-held : (v : Verdict) (n l : ℕ) → v ≡ Accepted → numberOf v ≡ runRefusal n l → (n ≤ mostPlaces) × (legCount n ≤ l)
+run-held v n l e h =
+    let told = run-accepted n l (accepts v _ e h) in
+    (within-most 1 mostPlaces n (told .0), le-of-eq (sym (told .1)))
+
 -- accepted metres
 pub metres-short : (m : ℕ) → metresRule m ≡ true → m ≤ mostMetres
 metres-short m h = leb-true m mostMetres h
 
-module _ (n : ℕ) (d : ℕ → ℕ → ℕ) where
-  leg-at : legsRule n d ≡ true → (u v : ℕ) → u < n → v < n → legRule d u v ≡ true
-  leg-at h u v p q = below-at (legRule d u) n (below-at (λ (a : ℕ). allBelow n (legRule d a)) n h u p) v q
+module _ (t : Table) (legs : legsRule t ≡ true) where
+  -- past the run there are 0 metres
+  leg-short : (i : ℕ) → getD t i 0 ≤ mostMetres
+  leg-short i = either (decLt i (length t))
+    where
+      either : Dec (i < length t) → getD t i 0 ≤ mostMetres
+      either (yes lt) = metres-short (getD t i 0) (below-at (λ j. metresRule (getD t j 0)) (length t) legs i lt)
+      either (no past) = rw (List·getD-eq-default t 0 {n = i} (omega arith)) zero-le
 
-  way-at : triangleRule n d ≡ true → (u v w : ℕ) → u < n → v < n → w < n → d u w ≤ d u v + d v w
-  way-at h u v w p q r =
-      let from = below-at (λ (a : ℕ). allBelow n (λ (b : ℕ). allBelow n (wayRule d a b))) n h u p in
-      let by = below-at (λ (b : ℕ). allBelow n (wayRule d u b)) n from v q in
-      leb-true (d u w) (d u v + d v w) (below-at (wayRule d u v) n by w r)
+  pub legs-short : (u v : ℕ) → metresOf t u v ≤ mostMetres
+  legs-short u v = by-order u v
+      (λ (l : u < v). rw (metres-up t u v l) (leg-short (legIndex u v)))
+      (λ (e : u ≡ v). rw (metres-self t u v e) zero-le)
+      (λ (l : v < u). rw (metres-down t u v l) (leg-short (legIndex v u)))
 
-  pub leg-metres : legsRule n d ≡ true → (u v : ℕ) → u < v → v < n → metresRule (d u v) ≡ true
-  leg-metres h u v p q =
-      let rule : legRule d u v ≡ true = leg-at h u v (omega arith) q in
-      sym (leg-even d u v (λ e. omega arith) (leg-both-ways d u v rule)) ∙ rule
-
-  pub legs-hold : ((u : ℕ) → u < n → d u u ≡ 0) → ((u v : ℕ) → u < n → v < n → d u v ≡ d v u)
-      → ((u v : ℕ) → u < v → v < n → metresRule (d u v) ≡ true) → legsRule n d ≡ true
-  legs-hold self both metres =
-      below-all _ n (λ u p. below-all (legRule d u) n (λ v q. by-order u v
-      (λ (l : u < v). leg-even d u v (λ e. omega arith) (both u v p q) ∙ metres u v l q)
-      (λ (e : u ≡ v). self-leg-zero d u v e (ap (d u) (sym e) ∙ self u p))
-      (λ (l : v < u). leg-even d u v (λ e. omega arith) (both u v p q) ∙ rw (both u v p q) (metres v u l p))))
-
-  -- legs and triangles within the rules make a metric
-  pub metric-of : legsRule n d ≡ true → triangleRule n d ≡ true → Metric n d
-  metric-of legs triangles = record {
-    self = λ u p. eqb-true (d u u) 0 (sym (self-leg d u u refl) ∙ leg-at legs u u p p);
-    both-ways = λ u v p q. leg-both-ways d u v (leg-at legs u v p q);
-    triangle = way-at triangles;
-  }
-
--- the metres between the places decide
-module _ (n : ℕ) (d e : ℕ → ℕ → ℕ) (same : (u v : ℕ) → u < n → v < n → d u v ≡ e u v) where
-  pub same-leg-rule : legsRule n d ≡ legsRule n e
-  unfolding legRule
-  same-leg-rule =
-      below-same _ _ n (λ u p. below-same (legRule d u) (legRule e u) n (λ v q. rw (same u v p q, same v u q p)))
-
-  pub same-triangle-rule : triangleRule n d ≡ triangleRule n e
-  same-triangle-rule =
-      below-same _ _ n (λ u p. below-same _ _ n (λ v q. below-same (wayRule d u v) (wayRule e u v) n (λ w r. rw (same u w p r, same u v p q, same v w q r))))
+  pub leg-metres : (u v : ℕ) → metresRule (metresOf t u v) ≡ true
+  leg-metres u v = le-leb (metresOf t u v) mostMetres (legs-short u v)

@@ -1,9 +1,9 @@
--- The road table of document 01: its metres, its rules, and the first refusal that applies to it.
-use Prim.Native.Nat.{ℕ, _+_}
+-- The road table: its legs in order, its metres, its rules, and the first refusal that applies to it.
+use Prim.Native.Nat.{ℕ, _+_, _-_, _*_, _/_}
 use mathlib.Core.Bool.{Bool, _&&_, cond}
-use mathlib.Core.List.{List, []}
+use mathlib.Core.List.{List}
 use lib.Dec.{leb, ltb, eqb}
-use lib.ListN.{getD}
+use lib.ListN.{length, getD, take}
 use Rattle.base.specs.Numbers.{unless, _then_}
 use Rattle.base.specs.Tests.{within, allBelow}
 
@@ -15,15 +15,35 @@ mostPlaces = 64
 abbrev pub mostMetres : ℕ
 mostMetres = 1000000
 
--- "The road table is a square of rows, one row for each place, one column for each place, in metres."
+-- the most legs, those of the most places
+abbrev pub mostLegs : ℕ
+mostLegs = 2016
+
+-- how many legs there are between so many places; so many come before the first leg to the place of that number
+unfoldable pub legCount : ℕ → ℕ
+legCount n = n * (n - 1) / 2
+
+-- "the order (0,1), (0,2), (1,2), (0,3), and so on: by second place, then by first": the index of the leg (u,v), u being below v
+abbrev pub legIndex : ℕ → ℕ → ℕ
+legIndex u v = legCount v + u
+
+-- how many legs a table has; 0 for more places than a table may have
+abbrev pub legsOf : ℕ → ℕ
+legsOf n = cond (leb n mostPlaces) (legCount n) 0
+
+-- paper 6: "The table becomes one run of numbers, the legs in the day file's order, without the self-legs."
 abbrev pub Table : Type 0
-Table = List (List ℕ)
+Table = List ℕ
 
--- "d(u,w) the metres from u to w"
-abbrev pub metresOf : Table → ℕ → ℕ → ℕ
-metresOf t u w = getD (getD t u []) w 0
+-- paper 6: of an array that holds the table of n places, "only its legs are the run"
+abbrev pub runOf : ℕ → List ℕ → Table
+runOf n array = take (legCount n) array
 
--- what is read off a table for any two numbers: 0 past its rows and columns
+-- "d(u,w) the metres from u to w"; paper 6: "Both directions of a leg are the same". "A place to itself is 0."
+unfoldable pub metresOf : Table → ℕ → ℕ → ℕ
+metresOf t u w = cond (ltb u w) (getD t (legIndex u w) 0) (cond (ltb w u) (getD t (legIndex w u) 0) 0)
+
+-- what is read off a table for any two numbers: 0 past the most places
 unfoldable pub entry : (ℕ → ℕ → ℕ) → ℕ → ℕ → ℕ
 entry d u w = cond (ltb u mostPlaces && ltb w mostPlaces) (d u w) 0
 
@@ -35,14 +55,9 @@ placesRule n = within 1 mostPlaces n
 abbrev pub metresRule : ℕ → Bool
 metresRule m = leb m mostMetres
 
--- "A place to itself is 0. Between different places it is" at most 1,000,000 (paper 1), "the same both ways." The numbers of
--- the places tell a self-leg, not its metres.
-unfoldable pub legRule : (ℕ → ℕ → ℕ) → ℕ → ℕ → Bool
-legRule d u v = cond (eqb u v) (eqb (d u v) 0) (eqb (d u v) (d v u) && metresRule (d u v))
-
--- the rule of a leg, for every two places
-abbrev pub legsRule : ℕ → (ℕ → ℕ → ℕ) → Bool
-legsRule n d = allBelow n (λ u. allBelow n (legRule d u))
+-- the rule of a leg's metres, for every leg
+abbrev pub legsRule : Table → Bool
+legsRule t = allBelow (length t) (λ i. metresRule (getD t i 0))
 
 -- "d(u,w) ≤ d(u,v) + d(v,w)"
 abbrev pub wayRule : (ℕ → ℕ → ℕ) → ℕ → ℕ → ℕ → Bool
@@ -56,13 +71,17 @@ triangleRule n d = allBelow n (λ u. allBelow n (λ v. allBelow n (wayRule d u v
 abbrev pub placesRefusal : ℕ → ℕ
 placesRefusal n = unless (placesRule n) 3
 
+-- paper 6: "A run longer or shorter than the legs of its stated number of places gives 3." Of n places and l numbers.
+unfoldable pub runRefusal : ℕ → ℕ → ℕ
+runRefusal n l = placesRefusal n then unless (eqb l (legCount n)) 3
+
 -- "metres outside the rules for a leg"
 abbrev pub metresRefusal : ℕ → ℕ
 metresRefusal m = unless (metresRule m) 4
 
--- "metres outside the rules for a leg; in memory also a self-leg not 0 or two directions unequal"
-abbrev pub legsRefusal : ℕ → Table → ℕ
-legsRefusal n t = unless (legsRule n (metresOf t)) 4
+-- paper 6: "4 keeps the metres"
+abbrev pub legsRefusal : Table → ℕ
+legsRefusal t = unless (legsRule t) 4
 
 -- "three places break the triangle rule"
 abbrev pub triangleRefusal : ℕ → Table → ℕ
@@ -70,4 +89,4 @@ triangleRefusal n t = unless (triangleRule n (metresOf t)) 8
 
 -- a table alone, in memory: 3, then 4, then 8
 abbrev pub tableRefusal : ℕ → Table → ℕ
-tableRefusal n t = placesRefusal n then legsRefusal n t then triangleRefusal n t
+tableRefusal n t = runRefusal n (length t) then legsRefusal t then triangleRefusal n t

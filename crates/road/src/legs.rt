@@ -1,60 +1,37 @@
-// The legs of a lent table: 0 from a place to itself, else at most the limit of a leg and the same both ways.
+// The legs of a lent table: where each stands, and the limit of its metres.
 use crate::Road;
-use crate::Table;
-use base::Refusal;
 use base::Verdict;
 ghost use mathlib.Core.Path.{_≡_};
-ghost use Prim.Native.Nat.{_<_, _≤_};
-ghost use Rattle.base.specs.Numbers.{numberOf, unless};
-ghost use Rattle.base.specs.Tests.{allBelow};
-ghost use Rattle.road.specs.Table.{mostPlaces, metresOf, legRule, legsRefusal};
+ghost use Prim.Native.Nat.{_<_};
+ghost use Rattle.base.specs.Numbers.{numberOf};
+ghost use Rattle.road.specs.Table.{metresOf, entry, legsRefusal};
 
-// 4 unless the leg from u to v keeps its rule.
-fn test_leg(table: &Table, u: usize, v: usize) -> Verdict
-    requires { ⌜ (u < mostPlaces) × (v < mostPlaces) ⌝ }
-    ensures { λ r. ⌜ numberOf r ≡ unless (legRule (metresOf (now (table .entry))) u v) 4 ⌝ }
+// The metres of the leg from u to the later place v; 0 past the most places, and past the run.
+pub(crate) fn metres(table: &[u32], u: usize, v: usize) -> u32
+    requires { ⌜ u < v ⌝ }
+    ensures { λ r. ⌜ r ≡ entry (metresOf (now (table .entry))) u v ⌝ }
 {
-    let there = table[u][v];
-    if u == v {
-        if there == 0 {
-            return Verdict::Accepted;
-        }
-        return Verdict::Refused(Refusal::Metres);
+    if Road::PLACES <= v {
+        return 0;
     }
-    if there == table[v][u] {
-        return Road::test_metres(there);
+    let index = Road::legs(v) + u;
+    if table.len() <= index {
+        return 0;
     }
-    Verdict::Refused(Refusal::Metres)
+    table[index]
 }
 
-// 4 unless every leg from u keeps its rule.
-fn test_from(table: &Table, places: usize, u: usize) -> Verdict
-    requires { ⌜ (places ≤ mostPlaces) × (u < mostPlaces) ⌝ }
-    ensures { λ r. ⌜ numberOf r ≡ unless (allBelow places (legRule (metresOf (now (table .entry))) u)) 4 ⌝ }
+// 4 unless the metres of every leg are within the limit.
+pub(crate) fn test(table: &[u32]) -> Verdict
+    ensures { λ r. ⌜ numberOf r ≡ legsRefusal (now (table .entry)) ⌝ }
 {
-    let mut v = 0;
-    while v < places {
-        let leg = test_leg(table, u, v);
+    let mut i = 0;
+    while i < table.len() {
+        let leg = Road::test_metres(table[i]);
         let Verdict::Accepted = leg else {
             return leg;
         };
-        v += 1;
-    }
-    Verdict::Accepted
-}
-
-// 4 unless every leg keeps its rule.
-pub(crate) fn test(table: &Table, places: usize) -> Verdict
-    requires { ⌜ places ≤ mostPlaces ⌝ }
-    ensures { λ r. ⌜ numberOf r ≡ legsRefusal places (now (table .entry)) ⌝ }
-{
-    let mut u = 0;
-    while u < places {
-        let row = test_from(table, places, u);
-        let Verdict::Accepted = row else {
-            return row;
-        };
-        u += 1;
+        i += 1;
     }
     Verdict::Accepted
 }

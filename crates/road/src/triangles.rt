@@ -1,61 +1,75 @@
-// The triangle rule of a lent table: no way by a third place is shorter than the road.
-use crate::Table;
+// The triangle rule of a lent table. Each three places are looked at once, in ascending order: none of the three legs between them is
+// longer than the two others together.
+use crate::Road;
 use base::Refusal;
 use base::Verdict;
 ghost use mathlib.Core.Path.{_≡_};
 ghost use Prim.Native.Nat.{_+_, _<_, _≤_};
 ghost use lib.Dec.{leb};
+ghost use lib.ListN.{length, getD};
 ghost use Rattle.base.specs.Numbers.{numberOf, unless};
 ghost use Rattle.base.specs.Tests.{allBelow};
-ghost use Rattle.road.specs.Table.{mostPlaces, metresOf, wayRule, triangleRefusal};
+ghost use Rattle.road.specs.Table.{mostPlaces, legCount, metresOf, triangleRefusal};
+ghost use Rattle.road.specs.Triangles.{sidesRule, pairRule, placeRule};
 
-// Whether a way of two legs is at least as long as the road. The rest of the road past the first leg is compared with the
-// second, since the sum of the legs may not fit.
-fn no_shorter(first: u32, second: u32, road: u32) -> bool
-    ensures { λ r. ⌜ r ≡ leb road (first + second) ⌝ }
+// Whether a leg is no longer than two others together. What is left of it past the first is compared with the second, since the sum
+// may not fit.
+fn no_longer(leg: u32, first: u32, second: u32) -> bool
+    ensures { λ r. ⌜ r ≡ leb leg (first + second) ⌝ }
 {
-    if road <= first {
+    if leg <= first {
         return true;
     }
-    road - first <= second
+    leg - first <= second
 }
 
-// Whether the way from u by v to w is at least as long as the road.
-fn way_keeps(table: &Table, u: usize, v: usize, w: usize) -> bool
-    requires { ⌜ (u < mostPlaces) × ((v < mostPlaces) × (w < mostPlaces)) ⌝ }
-    ensures { λ r. ⌜ r ≡ wayRule (metresOf (now (table .entry))) u v w ⌝ }
+// Whether none of three legs is longer than the two others together.
+fn sides_keep(a: u32, b: u32, c: u32) -> bool
+    ensures { λ r. ⌜ r ≡ sidesRule a b c ⌝ }
 {
-    no_shorter(table[u][v], table[v][w], table[u][w])
+    no_longer(a, b, c) & no_longer(b, a, c) & no_longer(c, a, b)
 }
 
-// 8 unless every way from u by v is at least as long as the road. The loop has no way out before its end, so that it can
-// compile to several places at a time.
-fn test_by(table: &Table, places: usize, u: usize, v: usize) -> Verdict
-    requires { ⌜ (places ≤ mostPlaces) × ((u < mostPlaces) × (v < mostPlaces)) ⌝ }
-    ensures { λ r. ⌜ numberOf r ≡ unless (allBelow places (wayRule (metresOf (now (table .entry))) u v)) 8 ⌝ }
+// Whether the rule holds of two places with each earlier one: `near` has the legs from these to the first of the two, `far` those to
+// the second, and `across` is the leg between the two. The loop has no way out before its end, so that it can compile to several
+// places at a time.
+fn rows_keep(near: &[u32], far: &[u32], across: u32) -> bool
+    requires { ⌜ length (now near) ≤ length (now far) ⌝ }
+    ensures { λ r. ⌜ r ≡ allBelow (length (now (near .entry))) (λ u. sidesRule (getD (now (near .entry)) u 0) (getD (now (far .entry)) u 0) across) ⌝ }
 {
     let mut kept = true;
-    let mut w = 0;
-    while w < places {
-        kept = kept & way_keeps(table, u, v, w);
-        w += 1;
+    let mut u = 0;
+    while u < near.len() {
+        kept = kept & sides_keep(near[u], far[u], across);
+        u += 1;
     }
-    if kept {
+    kept
+}
+
+// 8 unless the rule holds of v and the later place w with each place before v.
+fn test_pair(table: &[u32], v: usize, w: usize) -> Verdict
+    requires { ⌜ (v < w) × ((w < mostPlaces) × (legCount w + w ≤ length (now table))) ⌝ }
+    ensures { λ r. ⌜ numberOf r ≡ unless (pairRule (metresOf (now (table .entry))) w v) 8 ⌝ }
+{
+    let near = Road::legs(v);
+    let far = Road::legs(w);
+    let across = table[far + v];
+    if rows_keep(&table[near..near + v], &table[far..far + v], across) {
         return Verdict::Accepted;
     }
     Verdict::Refused(Refusal::Triangle)
 }
 
-// 8 unless every way from u by another place is at least as long as the road.
-fn test_from(table: &Table, places: usize, u: usize) -> Verdict
-    requires { ⌜ (places ≤ mostPlaces) × (u < mostPlaces) ⌝ }
-    ensures { λ r. ⌜ numberOf r ≡ unless (allBelow places (λ v. allBelow places (wayRule (metresOf (now (table .entry))) u v))) 8 ⌝ }
+// 8 unless the rule holds of w with each two places before it.
+fn test_place(table: &[u32], w: usize) -> Verdict
+    requires { ⌜ (w < mostPlaces) × (legCount w + w ≤ length (now table)) ⌝ }
+    ensures { λ r. ⌜ numberOf r ≡ unless (placeRule (metresOf (now (table .entry))) w) 8 ⌝ }
 {
     let mut v = 0;
-    while v < places {
-        let row = test_by(table, places, u, v);
-        let Verdict::Accepted = row else {
-            return row;
+    while v < w {
+        let pair = test_pair(table, v, w);
+        let Verdict::Accepted = pair else {
+            return pair;
         };
         v += 1;
     }
@@ -63,17 +77,17 @@ fn test_from(table: &Table, places: usize, u: usize) -> Verdict
 }
 
 // 8 unless every three places keep the triangle rule.
-pub(crate) fn test(table: &Table, places: usize) -> Verdict
-    requires { ⌜ places ≤ mostPlaces ⌝ }
+pub(crate) fn test(table: &[u32], places: usize) -> Verdict
+    requires { ⌜ (places ≤ mostPlaces) × (legCount places ≤ length (now table)) ⌝ }
     ensures { λ r. ⌜ numberOf r ≡ triangleRefusal places (now (table .entry)) ⌝ }
 {
-    let mut u = 0;
-    while u < places {
-        let row = test_from(table, places, u);
-        let Verdict::Accepted = row else {
-            return row;
+    let mut w = 0;
+    while w < places {
+        let place = test_place(table, w);
+        let Verdict::Accepted = place else {
+            return place;
         };
-        u += 1;
+        w += 1;
     }
     Verdict::Accepted
 }

@@ -2,12 +2,11 @@
 -- Assumes nothing.
 use borrow.Author.Needs.{needs}
 use Rattle.base.proofs.Numbers.{goes-on, handed-up}
-use Rattle.road.proofs.Table.{few-places}
 use Rattle.road.proofs.Road.test_legs.Statement.{statement}
 use Rattle.road.proofs.Road.test_legs.Tie as tie
 
-test-places-requires : tie.Need-test-places-requires
-test-places-requires c κs = search needs
+test-run-requires : tie.Need-test-run-requires
+test-run-requires c κs = search needs
 
 enum-told : tie.Need-enum-told
 enum-told c = search needs
@@ -18,15 +17,15 @@ enum-told-2 c = search needs
 returns : tie.Need-returns
 returns c =
     let e = c .enum-told2 .given in
-    handed-up _ (e .0 .0) (e .1) _ _ (c .before .before .test-places .ensures)
+    handed-up _ (e .0 .0) (e .1) _ _ (c .before .before .test-run .ensures)
 
 test-requires : tie.Need-test-requires
-test-requires c κs = few-places _ _ (c .before .enum-told .given .1) (c .before .before .before .test-places .ensures)
+test-requires c κs = search needs
 
 returns-2 : tie.Need-returns-2
 returns-2 c =
-    goes-on _ _ _ _ (c .before .before .enum-told .given .1) (c .before .before .before .before .test-places .ensures)
+    goes-on _ _ _ _ (c .before .enum-told .given .1) (c .before .before .before .test-run .ensures)
     (c .test .ensures)
 
 pub test-legs-spec : {M : Type 1} → statement M
-test-legs-spec = tie.close (tie.spec test-places-requires enum-told enum-told-2 returns test-requires returns-2)
+test-legs-spec = tie.close (tie.spec test-run-requires enum-told enum-told-2 returns test-requires returns-2)

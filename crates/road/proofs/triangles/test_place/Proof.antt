@@ -1,29 +1,25 @@
--- `road::legs::test_from` meets its contract: the loop passes the places v whose leg from u keeps its rule.
+-- `road::triangles::test_place` meets its contract: the loop passes the places v that keep the rule with w and each place before v.
 -- Assumes nothing.
-use Prim.Native.Nat.{ℕ, _-_}
-use mathlib.Core.Bool.{Bool}
+use Prim.Native.Nat.{_-_}
 use borrow.Author.Needs.{needs}
 use Rattle.base.proofs.Numbers.{turns, stops-below}
 use Rattle.base.proofs.Tests.{Passed, begun, ended}
-use Rattle.road.specs.Table.{Table, metresOf, legRule}
-use Rattle.road.proofs.legs.test_from.Statement.{statement}
-use Rattle.road.proofs.legs.test_from.Tie as tie
-
--- what the loop tests of each place
-abbrev rule : Table → ℕ → ℕ → Bool
-rule table u = legRule (metresOf table) u
+use Rattle.road.specs.Table.{metresOf}
+use Rattle.road.specs.Triangles.{pairRule}
+use Rattle.road.proofs.triangles.test_place.Statement.{statement}
+use Rattle.road.proofs.triangles.test_place.Tie as tie
 
 abbrev Inv-loop : tie.InvT-loop
-Inv-loop table places u v₀ v = Passed places (rule table u) v
+Inv-loop table w v₀ v = Passed w (pairRule (metresOf table) w) v
 
 abbrev μ-loop : tie.MeasureT-loop
-μ-loop table places u v₀ v = places - v
+μ-loop table w v₀ v = w - v
 
 loop-holds : tie.Need-loop-holds Inv-loop μ-loop
 loop-holds c = begun _ _
 
-test-leg-requires : tie.Need-test-leg-requires Inv-loop μ-loop
-test-leg-requires c κs = search needs
+test-pair-requires : tie.Need-test-pair-requires Inv-loop μ-loop
+test-pair-requires c κs = search needs
 
 enum-told : tie.Need-enum-told Inv-loop μ-loop
 enum-told c = search needs
@@ -34,9 +30,9 @@ enum-told-2 c = search needs
 returns : tie.Need-returns Inv-loop μ-loop
 returns c =
     let l = c .before .before .before .before in
-    let a = l .before .args in
+    let a = l .before .before .args in
     let e = c .enum-told2 .given in
-    stops-below _ (e .0 .0) (e .1) (a .places) (l .loop .v) 4 (rule (a .table .now) (a .u)) (c .before .before .test-leg .ensures)
+    stops-below _ (e .0 .0) (e .1) (a .w) (l .loop .v) 8 (pairRule (metresOf (a .table .now)) (a .w)) (c .before .before .test-pair .ensures)
     (c .before .before .before .loop-test .taken)
 
 add-v : tie.Need-add-v Inv-loop μ-loop
@@ -48,20 +44,20 @@ loop-less c = search needs
 loop-again : tie.Need-loop-again Inv-loop μ-loop
 loop-again c =
     let l = c .before .before .before .before in
-    turns _ _ (l .loop .v) 3 _ (c .enum-told .given .1) (c .before .before .test-leg .ensures) (c .before .before .before .loop-test .taken)
+    turns _ _ (l .loop .v) 7 _ (c .enum-told .given .1) (c .before .before .test-pair .ensures) (c .before .before .before .loop-test .taken)
     (l .loop .inv)
 
 returns-2 : tie.Need-returns-2 Inv-loop μ-loop
 returns-2 c = rw (ended _ _ (c .before .loop .v) (c .before .loop .inv) (c .loop-test .left))
 
-pub test-from-spec : {M : Type 1} → statement M
-test-from-spec =
+pub test-place-spec : {M : Type 1} → statement M
+test-place-spec =
     tie.close
     (tie.spec
     Inv-loop
     μ-loop
     loop-holds
-    test-leg-requires
+    test-pair-requires
     enum-told
     enum-told-2
     returns
