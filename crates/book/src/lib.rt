@@ -8,7 +8,6 @@ mod weights;
 use base::Verdict;
 use dayfile::Day;
 use road::Road;
-use road::Table;
 ghost use mathlib.Core.Path.{_≡_};
 ghost use Rattle.base.specs.Numbers.{numberOf};
 ghost use Rattle.workfunction.specs.Plan.{place};
@@ -69,8 +68,8 @@ impl Book {
 
     // The fresh book of a day: no calls, each crane at its start, start j followed by stand j, weights and metres 0; the
     // same test of the day as for writing it.
-    pub fn fresh(day: Day, table: Table) -> Opening
-        ensures { λ r. ⌜ opening r ≡ freshOf day table ⌝ }
+    pub fn fresh(day: Day, table: &[u32]) -> Opening
+        ensures { λ r. ⌜ opening r ≡ freshOf day (now (table .entry)) ⌝ }
     {
         let tested = day.test(table);
         let Verdict::Accepted = tested else {
@@ -87,8 +86,8 @@ impl Book {
     }
 
     // The whole test of a book against a table: 3, 6, 7, 4, 5 of starts and calls as of a day, 5 of stands, 8, 9, 10, 13.
-    pub fn test(self, places: usize, table: Table) -> Verdict
-        ensures { λ r. ⌜ numberOf r ≡ bookRefusal self places table ⌝ }
+    pub fn test(self, places: usize, table: &[u32]) -> Verdict
+        ensures { λ r. ⌜ numberOf r ≡ bookRefusal self places (now (table .entry)) ⌝ }
     {
         let cranes = self.cranes;
         let calls = self.calls;
@@ -123,7 +122,7 @@ impl Book {
             return planned;
         };
         let vouched = weights::test(
-            &table,
+            table,
             &starts[..cranes],
             &requests[..calls],
             &stands[..cranes],

@@ -3,7 +3,6 @@ use crate::Book;
 use base::Refusal;
 use base::Verdict;
 use road::Road;
-use road::Table;
 ghost use mathlib.Core.Bool.{true, cond};
 ghost use mathlib.Core.Path.{_≡_};
 ghost use Prim.Native.Nat.{_<_, _≤_};
@@ -58,7 +57,7 @@ fn test_slack(y: i64, kept: i64, leg: u32, own: u32) -> Verdict
 }
 
 // The cost of the leg from stop p to follower b.
-fn leg(table: &Table, starts: &[u16], calls: &[u16], stands: &[u16], p: usize, b: usize) -> u32
+fn leg(table: &[u32], starts: &[u16], calls: &[u16], stands: &[u16], p: usize, b: usize) -> u32
     ensures { λ r. ⌜ r ≡ legCost (entry (metresOf (now (table .entry)))) (now (starts .entry)) (now (calls .entry)) (now (stands .entry)) p b ⌝ }
 {
     let from = Book::place_of(starts, calls, p) as usize;
@@ -83,7 +82,7 @@ fn test_at(cranes: usize, p: usize, b: usize, y: i64, kept: i64, leg: u32, own: 
 
 // 10 unless the inequality of stop p holds for every b that may follow it.
 fn test_from(
-    table: &Table,
+    table: &[u32],
     starts: &[u16],
     calls: &[u16],
     stands: &[u16],
@@ -111,7 +110,7 @@ fn test_from(
 
 // 10 unless the weights vouch for the plan.
 fn test_vouching(
-    table: &Table,
+    table: &[u32],
     starts: &[u16],
     calls: &[u16],
     stands: &[u16],
@@ -135,7 +134,7 @@ fn test_vouching(
 
 // 10 unless the weights are within their range and vouch for the plan, over the legs of the table.
 pub(crate) fn test(
-    table: &Table,
+    table: &[u32],
     starts: &[u16],
     calls: &[u16],
     stands: &[u16],

@@ -7,7 +7,7 @@ use lib.Dec.{ltb, leb}
 use lib.ListN.{length, getD, take}
 use Rattle.base.specs.Numbers.{unless, _then_}
 use Rattle.base.specs.Tests.{within, allBelow}
-use Rattle.road.specs.Table.{Table, placesRefusal, legsRefusal, triangleRefusal}
+use Rattle.road.specs.Table.{Table, runRefusal, legsRefusal, triangleRefusal}
 use Rattle.dayfile.specs.declared.Day.{Day}
 use Rattle.dayfile.specs.declared.codec.Record.{Record}
 use Rattle.dayfile.specs.Legs.{legRecords}
@@ -32,9 +32,9 @@ callsRule m = leb m mostCalls
 abbrev pub stopsRule : ℕ → List ℕ → Bool
 stopsRule n stops = allBelow (length stops) (λ i. ltb (getD stops i 0) n)
 
--- 3, 6, 7
-unfoldable pub countsRefusal : ℕ → ℕ → ℕ → ℕ
-countsRefusal n k m = placesRefusal n then unless (cranesRule k) 6 then unless (callsRule m) 7
+-- 3, 6, 7; paper 6: a run of l numbers that aren't the legs of n places gives 3 too
+unfoldable pub countsRefusal : ℕ → ℕ → ℕ → ℕ → ℕ
+countsRefusal n l k m = runRefusal n l then unless (cranesRule k) 6 then unless (callsRule m) 7
 
 -- 5
 abbrev pub stopsRefusal : ℕ → List ℕ → ℕ
@@ -63,7 +63,7 @@ pub record SameDay (a b : Day) : Type 0 where
 -- what a day and a book are tested for first: "In memory: 3, 6, 7, 4, 5 (starts, calls ..)"
 unfoldable pub placedRefusal : Day → Table → ℕ
 placedRefusal day t =
-    countsRefusal (day .places) (day .cranes) (day .calls) then legsRefusal (day .places) t then
+    countsRefusal (day .places) (length t) (day .cranes) (day .calls) then legsRefusal t then
     stopsRefusal (day .places) (dayStarts day) then stopsRefusal (day .places) (dayRequests day)
 
 -- "In memory: 3, 6, 7, 4, 5 (starts, calls ..), 8"

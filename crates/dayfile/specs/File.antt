@@ -5,7 +5,7 @@ use lib.Dec.{leb}
 use lib.ListN.{length, getD, take, replicate}
 use Rattle.base.specs.Lists.{padded, splice}
 use Rattle.base.specs.Numbers.{numberOf, unless, _then_, unlessRefused}
-use Rattle.road.specs.Table.{Table, mostPlaces, metresOf, triangleRefusal}
+use Rattle.road.specs.Table.{Table, mostPlaces, mostLegs, legCount, runOf, metresOf, triangleRefusal}
 use Rattle.dayfile.specs.declared.Day.{Day}
 use Rattle.dayfile.specs.declared.Reading.{Reading}
 use Rattle.dayfile.specs.declared.Written.{Written}
@@ -13,7 +13,7 @@ use Rattle.dayfile.specs.declared.codec.Record.{Record}
 use Rattle.dayfile.specs.declared.scan.State.{State}
 use Rattle.dayfile.specs.Codec.{records, encodeAll}
 use Rattle.dayfile.specs.Scan.{Scan, refused, counted, refuseAt, start, lengthRefusal, scan}
-use Rattle.dayfile.specs.Legs.{none, legCount, legTable}
+use Rattle.dayfile.specs.Legs.{none, tableOf}
 use Rattle.dayfile.specs.Day.{mostCranes, mostCalls, dayRefusal, dayRecords}
 
 -- the place of the j-th record from index i: "Bytes 2-3: first place"
@@ -44,36 +44,37 @@ noDay = record { places = 0; cranes = 0; calls = 0; starts = replicate mostCrane
 
 -- "then 8", with the index 0
 abbrev pub ways : List Record → Scan → Scan
-ways rs (counted s) = refuseAt 0 (triangleRefusal (s .second) (legTable (s .second) rs)) (counted s)
+ways rs (counted s) = refuseAt 0 (triangleRefusal (s .second) (runOf (s .second) (tableOf (s .second) rs))) (counted s)
 ways rs (refused n i) = refused n i
 
 -- "File: 1; then record by record ..; then the end: 3, 6; then 8."
 unfoldable pub tested : List ℕ → Scan
 tested bs = refuseAt 0 (lengthRefusal (length bs)) (ways (records bs) (scan 0 start (records bs)))
 
--- the number, 0 where the file is accepted; the index that goes with it, else 0; the day
+-- the number, 0 where the file is accepted; the index that goes with it, else 0; the day and its table
 pub record Answer : Type 0 where
   pub number : ℕ
   pub index : ℕ
   pub day : Day
+  pub table : List ℕ
 
 abbrev pub answer : Reading → Answer
-answer r = record { number = numberOf (r .verdict); index = r .index; day = r .day }
+answer r = record { number = numberOf (r .verdict); index = r .index; day = r .day; table = r .table }
 
 abbrev pub refusal : ℕ → ℕ → Answer
-refusal n i = record { number = n; index = i; day = noDay }
+refusal n i = record { number = n; index = i; day = noDay; table = replicate mostLegs 0 }
 
 abbrev pub answerOf : List Record → Scan → Answer
-answerOf rs (counted s) = record { number = 0; index = 0; day = dayOf rs s }
+answerOf rs (counted s) = record { number = 0; index = 0; day = dayOf rs s; table = tableOf (s .second) rs }
 answerOf rs (refused n i) = refusal n i
 
 -- "With the number goes the record's index"
 unfoldable pub readFile : List ℕ → Answer
 readFile bs = answerOf (records bs) (tested bs)
 
--- the table of a refused file has no places, so it is 0 throughout
+-- paper 6: of the table that is read "only its legs are the run"
 abbrev pub readTable : List ℕ → Table
-readTable bs = legTable (readFile bs .day .places) (records bs)
+readTable bs = runOf (readFile bs .day .places) (readFile bs .table)
 
 -- the number, 0 where the day is written; how many bytes; the whole buffer
 pub record Output : Type 0 where

@@ -1,16 +1,10 @@
--- The legs of a file: which record each is, and the road table that they make.
-use Prim.Native.Nat.{ℕ, zero, suc, _+_, _-_, _*_, _/_, _<_, _≤_}
-use mathlib.Core.Bool.{cond}
+-- The legs of a file: their records, and the road table that they make.
+use Prim.Native.Nat.{ℕ, zero, suc}
 use mathlib.Core.List.{List, [], _++_}
-use lib.Dec.{ltb}
-use lib.ListN.{length, getD, replicate}
+use lib.ListN.{getD}
 use Rattle.base.specs.Lists.{upTo, padded}
-use Rattle.road.specs.Table.{Table, mostPlaces}
+use Rattle.road.specs.Table.{mostLegs, legCount}
 use Rattle.dayfile.specs.declared.codec.Record.{Record}
-
--- how many legs there are between so many places; so many come before the first leg to that place
-unfoldable pub legCount : ℕ → ℕ
-legCount n = n * (n - 1) / 2
 
 -- a leg's record
 abbrev pub leg : ℕ → ℕ → ℕ → Record
@@ -25,25 +19,10 @@ legRecords d (suc v) = legRecords d v ++ upTo v (λ u. leg u v (d u v))
 abbrev pub none : Record
 none = record { kind = 0; pad = 0; first = 0; second = 0; gap = 0; metres = 0 }
 
--- the metres of the leg's record, u being below v
-abbrev pub legMetres : List Record → ℕ → ℕ → ℕ
-legMetres rs u v = getD rs (legCount v + u) none .metres
+-- "Bytes 8-11: metres for a leg": those of the record of index i
+abbrev pub metresAt : List Record → ℕ → ℕ
+metresAt rs i = getD rs i none .metres
 
--- u and v are among n places whose legs the bytes have
-pub record LegsHeld (u v : ℕ) (bytes : List ℕ) : Type 0 where
-  pub n : ℕ
-  pub places : n ≤ mostPlaces
-  pub from : u < n
-  pub to : v < n
-  pub long : 12 * legCount n ≤ length bytes
-
--- the same both ways, and 0 from a place to itself
-unfoldable pub between : List Record → ℕ → ℕ → ℕ
-between rs u v = cond (ltb u v) (legMetres rs u v) (cond (ltb v u) (legMetres rs v u) 0)
-
--- a row and the table of n places, with as many rows and columns as the most places: "0 in a returned table" past the places
-unfoldable pub legRow : ℕ → List Record → ℕ → List ℕ
-legRow n rs u = padded mostPlaces n (between rs u) 0
-
-unfoldable pub legTable : ℕ → List Record → Table
-legTable n rs = padded mostPlaces n (legRow n rs) (replicate mostPlaces 0)
+-- the table of n places; paper 6: "The day-file reader still returns its table by value, 0 past its legs"
+unfoldable pub tableOf : ℕ → List Record → List ℕ
+tableOf n rs = padded mostLegs (legCount n) (metresAt rs) 0

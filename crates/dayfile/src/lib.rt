@@ -8,11 +8,10 @@ mod write;
 use base::Refusal;
 use base::Verdict;
 use road::Road;
-use road::Table;
 ghost use mathlib.Core.Path.{_≡_};
 ghost use Rattle.base.specs.Numbers.{numberOf};
 ghost use Rattle.dayfile.specs.Day.{countsRefusal, stopsRefusal, placedRefusal, dayRefusal};
-ghost use Rattle.dayfile.specs.File.{answer, readFile, readTable, written, writeFile};
+ghost use Rattle.dayfile.specs.File.{answer, readFile, written, writeFile};
 
 // A day in memory, beside its road table. The entries of `starts` past the number of cranes and of `requests` past the
 // number of calls are ignored where a day is given, and 0 in a day that is returned.
@@ -27,11 +26,13 @@ pub struct Day {
     pub requests: [u16; Day::CALLS],
 }
 
-// What a file holds: the day, or the refusal with the index of its record, and then a day of zeros.
+// What a file holds: the day and its table, or the refusal with the index of its record, and then a day and a table of zeros. The legs
+// of the day's places are the front of the array, 0 past them: `&table[..Road::legs(day.places)]` is the run.
 pub struct Reading {
     pub verdict: Verdict,
     pub index: usize,
     pub day: Day,
+    pub table: [u32; Road::LEGS],
 }
 
 // What became of a day that was to be written: the number of bytes, or the refusal and 0.
@@ -53,7 +54,7 @@ impl Day {
     // The bytes of the longest file.
     pub const FILE_LENGTH: usize = 27_456;
 
-    // The day of a file of any bytes.
+    // The day and the table of a file of any bytes.
     pub fn read(bytes: &[u8]) -> Reading
         ensures { λ r. ⌜ answer r ≡ readFile (now (bytes .entry)) ⌝ }
     {
@@ -69,7 +70,8 @@ impl Day {
         let state = found.state;
         let places = state.second;
         let table = legs::table(bytes, places);
-        let ways = Road::test_triangles(places, table);
+        let legs = Road::legs(places);
+        let ways = Road::test_triangles(places, &table[..legs]);
         let Verdict::Accepted = ways else {
             return scan::refused(ways, 0);
         };
@@ -77,22 +79,16 @@ impl Day {
             verdict: Verdict::Accepted,
             index: 0,
             day: scan::day(bytes, state),
+            table,
         }
     }
 
-    // The road table of a file of any bytes; of a refused one, the table of no places.
-    pub fn read_table(bytes: &[u8]) -> Table
-        ensures { λ r. ⌜ r ≡ readTable (now (bytes .entry)) ⌝ }
+    // 3, then 6, then 7: whether the numbers of places, cranes and calls are within their limits, and so many legs are those of the
+    // places.
+    pub fn test_counts(places: usize, legs: usize, cranes: usize, calls: usize) -> Verdict
+        ensures { λ r. ⌜ numberOf r ≡ countsRefusal places legs cranes calls ⌝ }
     {
-        let reading = Day::read(bytes);
-        legs::table(bytes, reading.day.places)
-    }
-
-    // 3, then 6, then 7: whether the numbers of places, cranes and calls are within their limits.
-    pub fn test_counts(places: usize, cranes: usize, calls: usize) -> Verdict
-        ensures { λ r. ⌜ numberOf r ≡ countsRefusal places cranes calls ⌝ }
-    {
-        let placed = Road::test_places(places);
+        let placed = Road::test_run(places, legs);
         let Verdict::Accepted = placed else {
             return placed;
         };
@@ -123,15 +119,15 @@ impl Day {
     }
 
     // The tests that a day and a book have in common: 3, 6, 7, 4, then 5 for the starts and the calls.
-    pub fn test_placed(self, table: Table) -> Verdict
-        ensures { λ r. ⌜ numberOf r ≡ placedRefusal self table ⌝ }
+    pub fn test_placed(self, table: &[u32]) -> Verdict
+        ensures { λ r. ⌜ numberOf r ≡ placedRefusal self (now (table .entry)) ⌝ }
     {
         let places = self.places;
         let cranes = self.cranes;
         let calls = self.calls;
         let starts = self.starts;
         let requests = self.requests;
-        let counted = Day::test_counts(places, cranes, calls);
+        let counted = Day::test_counts(places, table.len(), cranes, calls);
         let Verdict::Accepted = counted else {
             return counted;
         };
@@ -147,8 +143,8 @@ impl Day {
     }
 
     // The whole test of a day in memory: 3, 6, 7, 4, 5, 8.
-    pub fn test(self, table: Table) -> Verdict
-        ensures { λ r. ⌜ numberOf r ≡ dayRefusal self table ⌝ }
+    pub fn test(self, table: &[u32]) -> Verdict
+        ensures { λ r. ⌜ numberOf r ≡ dayRefusal self (now (table .entry)) ⌝ }
     {
         let placed = self.test_placed(table);
         let Verdict::Accepted = placed else {
@@ -158,8 +154,8 @@ impl Day {
     }
 
     // The day's file, into the front of a lent buffer; the same test, then 11 where the buffer is too short.
-    pub fn write(self, table: Table, out: &mut [u8]) -> Written
-        ensures { λ r. ⌜ written r (now (out .exit)) ≡ writeFile self table (now (out .entry)) ⌝ }
+    pub fn write(self, table: &[u32], out: &mut [u8]) -> Written
+        ensures { λ r. ⌜ written r (now (out .exit)) ≡ writeFile self (now (table .entry)) (now (out .entry)) ⌝ }
     {
         let tested = self.test(table);
         let Verdict::Accepted = tested else {
@@ -168,7 +164,7 @@ impl Day {
                 length: 0,
             };
         };
-        let records = legs::count(self.places) + self.cranes + self.calls;
+        let records = Road::legs(self.places) + self.cranes + self.calls;
         let length = Day::RECORD_LENGTH * records;
         if out.len() < length {
             return Written {
@@ -176,7 +172,7 @@ impl Day {
                 length: 0,
             };
         }
-        write::put(self, &table, out);
+        write::put(self, table, out);
         Written {
             verdict: Verdict::Accepted,
             length,

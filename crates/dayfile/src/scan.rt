@@ -3,7 +3,6 @@ use crate::Day;
 use crate::Reading;
 use crate::codec;
 use crate::codec::Record;
-use crate::legs;
 use crate::stops;
 use base::Refusal;
 use base::Verdict;
@@ -258,6 +257,7 @@ pub(crate) fn refused(verdict: Verdict, index: usize) -> Reading
             starts: [0; Day::CRANES],
             requests: [0; Day::CALLS],
         },
+        table: [0; Road::LEGS],
     }
 }
 
@@ -266,7 +266,7 @@ pub(crate) fn day(bytes: &[u8], s: State) -> Day
     requires { ⌜ Room (s .second) (s .cranes) (s .calls) (now bytes) ⌝ }
     ensures { λ r. ⌜ r ≡ dayOf (records (now (bytes .entry))) s ⌝ }
 {
-    let legs = legs::count(s.second);
+    let legs = Road::legs(s.second);
     let cranes = s.cranes;
     let calls = s.calls;
     let mut starts = [0; Day::CRANES];

@@ -7,15 +7,14 @@ use crate::serve;
 use crate::tidy;
 use base::Verdict;
 use book::Book;
-use road::Table;
 ghost use mathlib.Core.Path.{_≡_};
 ghost use Prim.Native.Nat.{ℕ};
 ghost use Rattle.base.specs.Numbers.{numberOf};
 ghost use Rattle.dispatch.specs.Commit.{commitRefusal, tidied, bookAfter, driveOf, leastAfter, committed, Next};
 
 // The test of the book, then 5 for the place, then 12 for the crane, then 7 for a full book.
-pub(crate) fn test(book: Book, places: usize, table: Table, place: u16, crane: usize) -> Verdict
-    ensures { λ r. ⌜ numberOf r ≡ commitRefusal book places table place crane ⌝ }
+pub(crate) fn test(book: Book, places: usize, table: &[u32], place: u16, crane: usize) -> Verdict
+    ensures { λ r. ⌜ numberOf r ≡ commitRefusal book places (now (table .entry)) place crane ⌝ }
 {
     let tested = book.test(places, table);
     let Verdict::Accepted = tested else {
@@ -39,7 +38,7 @@ pub(crate) fn refused(verdict: Verdict, book: Book) -> Commit
 }
 
 // A commit that is accepted.
-pub(crate) fn accepted(book: Book, table: &Table, place: u16, crane: usize) -> Commit
+pub(crate) fn accepted(book: Book, table: &[u32], place: u16, crane: usize) -> Commit
     requires { ⌜ ((n : ℕ) × (commitRefusal book n (now table) place crane ≡ 0)) ⌝ }
     ensures { λ r. ⌜ ((n : ℕ) → commitRefusal book n (now (table .entry)) place crane ≡ 0 → (committed r ≡ record { number = 0; least = leastAfter book n (now (table .entry)) place crane; book = bookAfter (tidied book) crane place (driveOf book (now (table .entry)) place crane) (r .book .plan) (r .book .weights) }) × Next (r .book) n (now (table .entry))) ⌝ }
 {

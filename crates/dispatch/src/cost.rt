@@ -3,7 +3,6 @@ use crate::floor;
 use crate::legs;
 use crate::plan;
 use book::Book;
-use road::Table;
 ghost use mathlib.Core.Path.{_≡_};
 ghost use Prim.Native.Nat.{ℕ};
 ghost use Rattle.road.specs.Table.{metresOf};
@@ -11,7 +10,7 @@ ghost use Rattle.workfunction.specs.Movement.{work, floor as Movement·floor};
 ghost use Rattle.book.specs.Book.{startsOf, standsOf, requestsOf, bookRefusal};
 
 // The least: the cost of the kept plan.
-pub(crate) fn least(book: Book, table: &Table) -> u64
+pub(crate) fn least(book: Book, table: &[u32]) -> u64
     requires { ⌜ ((n : ℕ) × (bookRefusal book n (now table) ≡ 0)) ⌝ }
     ensures { λ r. ⌜ ((n : ℕ) → bookRefusal book n (now (table .entry)) ≡ 0 → r ≡ work (metresOf (now (table .entry))) n (startsOf book) (requestsOf book) (standsOf book)) ⌝ }
 {
@@ -22,7 +21,7 @@ pub(crate) fn least(book: Book, table: &Table) -> u64
 }
 
 // The floor: that of its starts and calls.
-pub(crate) fn floor(book: Book, table: &Table) -> u64
+pub(crate) fn floor(book: Book, table: &[u32]) -> u64
     requires { ⌜ ((n : ℕ) × (bookRefusal book n (now table) ≡ 0)) ⌝ }
     ensures { λ r. ⌜ ((n : ℕ) → bookRefusal book n (now (table .entry)) ≡ 0 → r ≡ Movement·floor (metresOf (now (table .entry))) n (startsOf book) (requestsOf book)) ⌝ }
 {

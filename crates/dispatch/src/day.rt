@@ -6,7 +6,6 @@ use crate::serve;
 use base::Verdict;
 use book::Book;
 use dayfile::Day;
-use road::Table;
 ghost use mathlib.Core.Path.{_≡_};
 ghost use Rattle.base.specs.Numbers.{numberOf};
 ghost use Rattle.dayfile.specs.Day.{dayRefusal};
@@ -29,7 +28,7 @@ pub(crate) fn refused(verdict: Verdict) -> ServedDay
 }
 
 // A day that is accepted, from its fresh book.
-pub(crate) fn served(day: Day, fresh: Book, table: &Table) -> ServedDay
+pub(crate) fn served(day: Day, fresh: Book, table: &[u32]) -> ServedDay
     requires { ⌜ (dayRefusal day (now table) ≡ 0) × (fresh ≡ freshBook (day .cranes) (day .starts)) ⌝ }
     ensures { λ r. ⌜ dayFigures r ≡ servedDay day (now (table .entry)) ⌝ }
 {

@@ -3,7 +3,6 @@ use crate::insert;
 use crate::legs;
 use crate::plan;
 use book::Book;
-use road::Table;
 ghost use mathlib.Core.Path.{_≡_};
 ghost use Prim.Native.Nat.{ℕ};
 ghost use Rattle.road.specs.Table.{metresOf, entry};
@@ -11,7 +10,7 @@ ghost use Rattle.workfunction.specs.Movement.{floor as Movement·floor};
 ghost use Rattle.dispatch.specs.Insertion.{Roads, Asked, FloorGiven};
 
 // At first each start is followed by its own end; then the calls are taken in, in their order.
-pub(crate) fn floor(table: &Table, starts: &[u16], calls: &[u16]) -> u64
+pub(crate) fn floor(table: &[u32], starts: &[u16], calls: &[u16]) -> u64
     requires { ⌜ FloorGiven (entry (metresOf (now table))) (now starts) (now calls) ⌝ }
     ensures { λ r. ⌜ ((n : ℕ) (d : ℕ → ℕ → ℕ) → Roads n d (entry (metresOf (now (table .entry)))) → Asked n (now (starts .entry)) (now (calls .entry)) → r ≡ Movement·floor d n (now (starts .entry)) (now (calls .entry))) ⌝ }
 {

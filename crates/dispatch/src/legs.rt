@@ -1,7 +1,6 @@
 // The leg costs as one table of numbers: a row for each follower, a column for each stop, rows of one length.
 use book::Book;
 use road::Road;
-use road::Table;
 ghost use mathlib.Core.List.{[], _∷_, _++_};
 ghost use mathlib.Core.Path.{_≡_};
 ghost use Prim.Native.Nat.{ℕ, _+_, _*_, _<_, _≤_};
@@ -35,7 +34,7 @@ pub(crate) fn cost(costs: &[u32], p: usize, b: usize) -> u32
 }
 
 // The metres to the place `to` from each place of a list.
-fn fill_from(table: &Table, places: &[u16], to: usize, row: &mut [u32])
+fn fill_from(table: &[u32], places: &[u16], to: usize, row: &mut [u32])
     requires { ⌜ length (now row) ≤ length (now places) ⌝ }
     ensures { λ _. ⌜ now (row .exit) ≡ upTo (length (now (row .entry))) (λ p. entry (metresOf (now (table .entry))) (getD (now (places .entry)) p 0) to) ⌝ }
 {
@@ -47,7 +46,7 @@ fn fill_from(table: &Table, places: &[u16], to: usize, row: &mut [u32])
 }
 
 // The row of a follower at the place `to`: the metres to it from each stop.
-fn fill_row(table: &Table, starts: &[u16], calls: &[u16], to: usize, row: &mut [u32])
+fn fill_row(table: &[u32], starts: &[u16], calls: &[u16], to: usize, row: &mut [u32])
     requires { ⌜ (length (now starts) ≤ length (now row)) × (length (now row) ≤ stops (now starts) (now calls)) ⌝ }
     ensures { λ _. ⌜ now (row .exit) ≡ upTo (length (now (row .entry))) (λ p. entry (metresOf (now (table .entry))) (place (now (starts .entry)) (now (calls .entry)) p) to) ⌝ }
 {
@@ -58,7 +57,7 @@ fn fill_row(table: &Table, starts: &[u16], calls: &[u16], to: usize, row: &mut [
 
 // The rows of the followers from `first` on.
 fn fill_rows(
-    table: &Table,
+    table: &[u32],
     starts: &[u16],
     calls: &[u16],
     stands: &[u16],
@@ -84,7 +83,7 @@ fn fill_rows(
 }
 
 // The whole table of a book's legs.
-pub(crate) fn fill(table: &Table, starts: &[u16], calls: &[u16], stands: &[u16], costs: &mut [u32])
+pub(crate) fn fill(table: &[u32], starts: &[u16], calls: &[u16], stands: &[u16], costs: &mut [u32])
     requires { ⌜ RowsGiven (now starts) (now calls) (now stands) 0 (now costs) ⌝ }
     ensures { λ _. ⌜ LegTable (entry (metresOf (now (table .entry)))) (now (starts .entry)) (now (calls .entry)) (now (stands .entry)) (now (costs .exit)) ⌝ }
 {
@@ -93,7 +92,7 @@ pub(crate) fn fill(table: &Table, starts: &[u16], calls: &[u16], stands: &[u16],
 
 // The column of the stop p, at the place `from`: the metres from it to each follower below it.
 fn fill_column(
-    table: &Table,
+    table: &[u32],
     stands: &[u16],
     calls: &[u16],
     from: usize,
@@ -113,7 +112,7 @@ fn fill_column(
 
 // The table of a book's legs once a call at `at` is appended: one row and one column more.
 pub(crate) fn extend(
-    table: &Table,
+    table: &[u32],
     starts: &[u16],
     calls: &[u16],
     stands: &[u16],
@@ -144,7 +143,7 @@ pub(crate) fn copy_row(count: usize, from: usize, to: usize, costs: &mut [u32])
 }
 
 // The table of legs with free ends, from one of zeros: the rows of the calls.
-pub(crate) fn fill_free(table: &Table, starts: &[u16], calls: &[u16], costs: &mut [u32])
+pub(crate) fn fill_free(table: &[u32], starts: &[u16], calls: &[u16], costs: &mut [u32])
     requires { ⌜ (stops (now starts) (now calls) ≤ mostStops) × ((mostStops * mostStops ≤ length (now costs)) × ((i : ℕ) → getD (now costs) i 0 ≡ 0)) ⌝ }
     ensures { λ _. ⌜ Rows (stops (now (starts .entry)) (now (calls .entry))) (stops (now (starts .entry)) (now (calls .entry))) (freeCost (entry (metresOf (now (table .entry)))) (now (starts .entry)) (now (calls .entry))) (now (costs .exit)) ⌝ }
 {
@@ -152,7 +151,7 @@ pub(crate) fn fill_free(table: &Table, starts: &[u16], calls: &[u16], costs: &mu
 }
 
 // The table of a book's legs.
-pub(crate) fn of_book(book: Book, table: &Table, costs: &mut [u32])
+pub(crate) fn of_book(book: Book, table: &[u32], costs: &mut [u32])
     requires { ⌜ (book .cranes ≤ mostCranes) × ((book .calls ≤ mostCalls) × (mostStops * mostStops ≤ length (now costs))) ⌝ }
     ensures { λ _. ⌜ LegTable (entry (metresOf (now (table .entry)))) (startsOf book) (requestsOf book) (standsOf book) (now (costs .exit)) ⌝ }
 {

@@ -20,7 +20,6 @@ mod weights;
 use base::Verdict;
 use book::Book;
 use dayfile::Day;
-use road::Table;
 ghost use mathlib.Core.Path.{_≡_};
 ghost use Rattle.dispatch.specs.Commit.{commitRefusal, committed, commitOf, Next};
 ghost use Rattle.dispatch.specs.Costs.{twoCosts, costsOf};
@@ -76,43 +75,43 @@ pub struct Dispatch {}
 
 impl Dispatch {
     // The net costs by which a quote chooses; refused as a quote is.
-    pub fn net_costs(book: Book, places: usize, table: Table, place: u16) -> NetCosts
-        ensures { λ r. ⌜ netList r ≡ netsOf book places table place ⌝ }
+    pub fn net_costs(book: Book, places: usize, table: &[u32], place: u16) -> NetCosts
+        ensures { λ r. ⌜ netList r ≡ netsOf book places (now (table .entry)) place ⌝ }
     {
         let verdict = quotes::test(book, places, table, place);
         let Verdict::Accepted = verdict else {
             return nets::refused(verdict);
         };
-        nets::accepted(book, &table, place)
+        nets::accepted(book, table, place)
     }
 
     // The price of a call at a place: the book's test, then 5 for the place, then 7 for a full book.
-    pub fn quote(book: Book, places: usize, table: Table, place: u16) -> Quote
-        ensures { λ r. ⌜ quoted r ≡ quoteOf book places table place ⌝ }
+    pub fn quote(book: Book, places: usize, table: &[u32], place: u16) -> Quote
+        ensures { λ r. ⌜ quoted r ≡ quoteOf book places (now (table .entry)) place ⌝ }
     {
         let verdict = quotes::test(book, places, table, place);
         let Verdict::Accepted = verdict else {
             return quotes::refused(verdict);
         };
-        quotes::accepted(book, &table, place)
+        quotes::accepted(book, table, place)
     }
 
     // Sends a crane, the quoted one or another, to a call at a place: the book's test, then 5 for the place, then 12 for the
     // crane, then 7 for a full book. The new book's plan and weights are the only part of the result that document 01 leaves
     // open: of them it holds that the book is sound and has 0 past its counts. All else is one equation, for every input.
-    pub fn commit(book: Book, places: usize, table: Table, place: u16, crane: usize) -> Commit
-        ensures { λ r. ⌜ (committed r ≡ commitOf book places table place crane (r .book .plan) (r .book .weights)) × (commitRefusal book places table place crane ≡ 0 → Next (r .book) places table) ⌝ }
+    pub fn commit(book: Book, places: usize, table: &[u32], place: u16, crane: usize) -> Commit
+        ensures { λ r. ⌜ (committed r ≡ commitOf book places (now (table .entry)) place crane (r .book .plan) (r .book .weights)) × (commitRefusal book places (now (table .entry)) place crane ≡ 0 → Next (r .book) places (now (table .entry))) ⌝ }
     {
         let verdict = commits::test(book, places, table, place, crane);
         let Verdict::Accepted = verdict else {
             return commits::refused(verdict, book);
         };
-        commits::accepted(book, &table, place, crane)
+        commits::accepted(book, table, place, crane)
     }
 
     // The two costs of a book: the least cost of all movements that end at the stands, and of all movements; the book's test.
-    pub fn costs(book: Book, places: usize, table: Table) -> Costs
-        ensures { λ r. ⌜ twoCosts r ≡ costsOf book places table ⌝ }
+    pub fn costs(book: Book, places: usize, table: &[u32]) -> Costs
+        ensures { λ r. ⌜ twoCosts r ≡ costsOf book places (now (table .entry)) ⌝ }
     {
         let tested = book.test(places, table);
         let Verdict::Accepted = tested else {
@@ -122,8 +121,8 @@ impl Dispatch {
                 floor: 0,
             };
         };
-        let least = cost::least(book, &table);
-        let floor = cost::floor(book, &table);
+        let least = cost::least(book, table);
+        let floor = cost::floor(book, table);
         Costs {
             verdict: Verdict::Accepted,
             least,
@@ -132,14 +131,14 @@ impl Dispatch {
     }
 
     // A whole day, its calls served in turn from the fresh book; the test of the day.
-    pub fn serve_day(day: Day, table: Table) -> ServedDay
-        ensures { λ r. ⌜ dayFigures r ≡ servedDay day table ⌝ }
+    pub fn serve_day(day: Day, table: &[u32]) -> ServedDay
+        ensures { λ r. ⌜ dayFigures r ≡ servedDay day (now (table .entry)) ⌝ }
     {
         let opening = Book::fresh(day, table);
         let verdict = opening.verdict;
         let Verdict::Accepted = verdict else {
             return day::refused(verdict);
         };
-        day::served(day, opening.book, &table)
+        day::served(day, opening.book, table)
     }
 }

@@ -5,7 +5,6 @@ use crate::legs;
 use crate::search;
 use base::Verdict;
 use book::Book;
-use road::Table;
 ghost use mathlib.Core.List.{_++_};
 ghost use mathlib.Core.Path.{_≡_};
 ghost use Prim.Native.Nat.{ℕ};
@@ -20,7 +19,7 @@ ghost use Rattle.dispatch.specs.Quote.{quoteRefusal};
 ghost use Rattle.dispatch.specs.Search.{at, netBase};
 
 // Of each crane the net cost of freeing it for a call at `place`; and the table of the legs with the call in it.
-pub(crate) fn of_book(book: Book, table: &Table, place: u16, nets: &mut [u64], costs: &mut [u32])
+pub(crate) fn of_book(book: Book, table: &[u32], place: u16, nets: &mut [u64], costs: &mut [u32])
     requires { ⌜ QuoteGiven book (now table) place (now nets) (now costs) ⌝ }
     ensures { λ _. ⌜ ((n : ℕ) → quoteRefusal book n (now (table .entry)) place ≡ 0 → BookNetted book n (now (table .entry)) place (now (nets .exit)) (now (costs .exit))) ⌝ }
 {
@@ -81,7 +80,7 @@ pub(crate) fn refused(verdict: Verdict) -> NetCosts
 }
 
 // Net costs that are told.
-pub(crate) fn accepted(book: Book, table: &Table, place: u16) -> NetCosts
+pub(crate) fn accepted(book: Book, table: &[u32], place: u16) -> NetCosts
     requires { ⌜ ((n : ℕ) × (quoteRefusal book n (now table) place ≡ 0)) ⌝ }
     ensures { λ r. ⌜ ((n : ℕ) → quoteRefusal book n (now (table .entry)) place ≡ 0 → netList r ≡ record { number = 0; nets = netsByCrane book n (now (table .entry)) place }) ⌝ }
 {

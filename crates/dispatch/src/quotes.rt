@@ -8,15 +8,14 @@ use crate::plan;
 use crate::search;
 use base::Verdict;
 use book::Book;
-use road::Table;
 ghost use mathlib.Core.Path.{_≡_};
 ghost use Prim.Native.Nat.{ℕ};
 ghost use Rattle.base.specs.Numbers.{numberOf};
 ghost use Rattle.dispatch.specs.Quote.{quoteRefusal, quoted, unserved, figuresOf};
 
 // The test of the book, then 5 for the place, then 7 for a full book.
-pub(crate) fn test(book: Book, places: usize, table: Table, place: u16) -> Verdict
-    ensures { λ r. ⌜ numberOf r ≡ quoteRefusal book places table place ⌝ }
+pub(crate) fn test(book: Book, places: usize, table: &[u32], place: u16) -> Verdict
+    ensures { λ r. ⌜ numberOf r ≡ quoteRefusal book places (now (table .entry)) place ⌝ }
 {
     let tested = book.test(places, table);
     let Verdict::Accepted = tested else {
@@ -40,7 +39,7 @@ pub(crate) fn refused(verdict: Verdict) -> Quote
 }
 
 // A quote that is accepted: the crane of the least net cost and drive together, and the cost of the kept plan with its net cost.
-pub(crate) fn accepted(book: Book, table: &Table, place: u16) -> Quote
+pub(crate) fn accepted(book: Book, table: &[u32], place: u16) -> Quote
     requires { ⌜ ((n : ℕ) × (quoteRefusal book n (now table) place ≡ 0)) ⌝ }
     ensures { λ r. ⌜ ((n : ℕ) → quoteRefusal book n (now (table .entry)) place ≡ 0 → quoted r ≡ record { number = 0; figures = figuresOf book n (now (table .entry)) place }) ⌝ }
 {

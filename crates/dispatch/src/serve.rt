@@ -4,7 +4,6 @@ use crate::insert::Pick;
 use crate::legs;
 use crate::plan;
 use road::Road;
-use road::Table;
 ghost use mathlib.Core.List.{[]};
 ghost use Prim.Native.Nat.{ℕ, _<_};
 ghost use lib.ListN.{length, getD};
@@ -21,7 +20,7 @@ pub(crate) struct Step {
 
 // Serves a call at `place`, after `calls`, by the crane that is picked.
 pub(crate) fn serve_call(
-    table: &Table,
+    table: &[u32],
     starts: &[u16],
     calls: &[u16],
     place: u16,
@@ -51,7 +50,7 @@ pub(crate) fn serve_call(
 
 // Serves all requests in turn, and answers the sum of the drives.
 pub(crate) fn serve_all(
-    table: &Table,
+    table: &[u32],
     starts: &[u16],
     requests: &[u16],
     stands: &mut [u16],

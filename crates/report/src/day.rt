@@ -4,7 +4,7 @@ use crate::text;
 use base::Verdict;
 use dayfile::Day;
 use dispatch::Dispatch;
-use road::Table;
+use road::Road;
 ghost use Prim.Native.Nat.{_≤_};
 ghost use lib.ListN.{length};
 ghost use Rattle.dispatch.specs.ServedDay.{servedDay};
@@ -29,16 +29,18 @@ pub(crate) fn put_file(form: Form, file: &[u8], out: &mut [u8]) -> usize
         return text::put_refused(base::number(verdict) as u64, index as u64, out);
     };
     let day = reading.day;
+    let table = reading.table;
+    let legs = Road::legs(day.places);
     let Form::Rows = form else {
-        return put_lines(day, Day::read_table(file), out);
+        return put_lines(day, &table[..legs], out);
     };
-    put_rows(day, Day::read_table(file), out)
+    put_rows(day, &table[..legs], out)
 }
 
 // The line of a day's refusal, or the lines of its calls and the last line.
-fn put_lines(day: Day, table: Table, out: &mut [u8]) -> usize
+fn put_lines(day: Day, table: &[u32], out: &mut [u8]) -> usize
     requires { ⌜ 32768 ≤ length (now out) ⌝ }
-    ensures { λ r. ⌜ Put (figuresText (servedDay day table)) (now (out .entry)) 0 (now (out .exit)) r ⌝ }
+    ensures { λ r. ⌜ Put (figuresText (servedDay day (now (table .entry)))) (now (out .entry)) 0 (now (out .exit)) r ⌝ }
 {
     let served = Dispatch::serve_day(day, table);
     let verdict = served.verdict;
@@ -54,9 +56,9 @@ fn put_lines(day: Day, table: Table, out: &mut [u8]) -> usize
 }
 
 // The line of a day's refusal, or its sheet.
-fn put_rows(day: Day, table: Table, out: &mut [u8]) -> usize
+fn put_rows(day: Day, table: &[u32], out: &mut [u8]) -> usize
     requires { ⌜ 32768 ≤ length (now out) ⌝ }
-    ensures { λ r. ⌜ Put (sheetText day table) (now (out .entry)) 0 (now (out .exit)) r ⌝ }
+    ensures { λ r. ⌜ Put (sheetText day (now (table .entry))) (now (out .entry)) 0 (now (out .exit)) r ⌝ }
 {
     let written = sheet::write(day, table, out);
     let verdict = written.verdict;

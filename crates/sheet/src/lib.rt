@@ -7,7 +7,6 @@ use base::Verdict;
 use dayfile::Day;
 use dayfile::Written;
 use dispatch::Dispatch;
-use road::Table;
 ghost use mathlib.Core.Path.{_≡_};
 ghost use Rattle.dayfile.specs.File.{written};
 ghost use Rattle.sheet.specs.Sheet.{sheetOf};
@@ -17,8 +16,8 @@ pub const ROW: usize = 28;
 
 // The sheet of a day, its calls served from a fresh book, into the front of a lent buffer; the test of the day, then 11 where the buffer
 // is too short.
-pub fn write(day: Day, table: Table, out: &mut [u8]) -> Written
-    ensures { λ r. ⌜ written r (now (out .exit)) ≡ sheetOf day table (now (out .entry)) ⌝ }
+pub fn write(day: Day, table: &[u32], out: &mut [u8]) -> Written
+    ensures { λ r. ⌜ written r (now (out .exit)) ≡ sheetOf day (now (table .entry)) (now (out .entry)) ⌝ }
 {
     let served = Dispatch::serve_day(day, table);
     let verdict = served.verdict;

@@ -114,8 +114,11 @@ rows-keep-requires : tie.Need-rows-keep-requires
 rows-keep-requires c κs =
     let s = c .before .before .before .before .before .before .args in
     let h = held (c .before .before .before) in
-    omega (arith, length-row (s .table .now) (c .before .before .before .before .legs .result) (s .v) (omega arith),
-    length-row (s .table .now) (c .before .before .before .legs2 .result) (s .v) (omega arith))
+    omega (
+      arith,
+      length-row (s .table .now) (c .before .before .before .before .legs .result) (s .v) (omega arith),
+      length-row (s .table .now) (c .before .before .before .legs2 .result) (s .v) (omega arith),
+    )
 
 returns : tie.Need-returns
 returns c =
