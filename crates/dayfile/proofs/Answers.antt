@@ -6,14 +6,15 @@ use mathlib.Core.Path.{_≡_, refl, sym, ap, subst, _∙_}
 use lib.ListN.{length}
 use native.Mathlib.Nat.{zero-add}
 use native.Mathlib.Omega.{arith}
-use Rattle.road.specs.Table.{mostPlaces, triangleRefusal}
+use Rattle.road.specs.Table.{mostPlaces, triangleRefusal, legCount}
 use Rattle.dayfile.specs.declared.codec.Record.{Record}
 use Rattle.dayfile.specs.declared.scan.State.{State}
 use Rattle.dayfile.specs.Codec.{records}
 use Rattle.dayfile.specs.File.{Answer, dayOf, ways, tested, refusal, answerOf, readFile}
-use Rattle.dayfile.specs.Legs.{legCount, legTable}
+use Rattle.dayfile.specs.Legs.{tableOf}
 use Rattle.dayfile.specs.Scan.{Scan, refused, counted, refuseAt, start, lengthRefusal, scan}
 use Rattle.dayfile.proofs.Grammar.{Run, not-refused, run-of, run-counted, run-progress}
+use Rattle.dayfile.proofs.legs.Laws.{readRun}
 use Rattle.dayfile.proofs.codec.Laws.{length-records}
 use Rattle.dayfile.proofs.scan.Laws.{Progress, progress-start, refuses}
 
@@ -32,9 +33,9 @@ pub record File (bs : List ℕ) (all : List Record) (t : State) : Type 0 where
   pub fits : lengthRefusal (length bs) ≡ 0
   pub same : records bs ≡ all
   pub run : Run start all t
-  pub triangles : triangleRefusal (t .second) (legTable (t .second) all) ≡ 0
+  pub triangles : triangleRefusal (t .second) (readRun (t .second) all) ≡ 0
 
-pub file-read : (bs : List ℕ) (all : List Record) (t : State) → File bs all t → readFile bs ≡ record { number = 0; index = 0; day = dayOf all t }
+pub file-read : (bs : List ℕ) (all : List Record) (t : State) → File bs all t → readFile bs ≡ record { number = 0; index = 0; day = dayOf all t; table = tableOf (t .second) all }
 unfolding readFile tested
 file-read bs all t h = rw (h .same, h .fits, run-counted (h .run) 0, h .triangles)
 
@@ -73,21 +74,8 @@ module _ (bs : List ℕ) where
     unfolding tested
     record-refused i n s e h = answered (refused n i) (rw (long, ← e, refuses i n (counted s) h))
 
-    module _ (s : State) (e : counted s ≡ scan 0 start (records bs)) (n : ℕ) (f : n ≡ triangleRefusal (s .second) (legTable (s .second) (records bs))) where
+    module _ (s : State) (e : counted s ≡ scan 0 start (records bs)) (n : ℕ) (f : n ≡ triangleRefusal (s .second) (readRun (s .second) (records bs))) where
       -- 8
       pub way-refused : (n ≡ 0 → ⊥) → refusal n 0 ≡ readFile bs
       unfolding tested
       way-refused h = answered (refused n 0) (rw (long, ← e, ← f) (refuses 0 n _ h))
-
--- the legs of the places read are in the file; where it is refused there are none
-pub places-read : (bs : List ℕ) → (readFile bs .day .places ≤ mostPlaces) × (12 * legCount (readFile bs .day .places) ≤ length bs)
-unfolding dayOf legCount
-places-read bs = either (tested bs) refl
-  where
-    either : (x : Scan) → tested bs ≡ x → (readFile bs .day .places ≤ mostPlaces) × (12 * legCount (readFile bs .day .places) ≤ length bs)
-    either (counted s) e =
-        let h : readFile bs .number ≡ 0 = ap (λ (a : Answer). a .number) (sym (answered bs (counted s) e)) in
-        let f = accepted-file bs h in
-        let kept : Progress (f .0) (length bs / 12) = progress-read bs (f .0) (f .1 .run) in
-        rw (file-read bs (records bs) (f .0) (f .1)) (kept .places, omega arith)
-    either (refused n i) e = rw (← answered bs (refused n i) e) (zero-le, zero-le)

@@ -14,13 +14,13 @@ use native.Mathlib.Nat.{add-zero}
 use native.Mathlib.Omega.{arith}
 use Rattle.base.specs.Tests.{within}
 use Rattle.base.proofs.Numbers.{unless-zero, then-zero}
-use Rattle.road.specs.Table.{mostPlaces, mostMetres, metresRule}
+use Rattle.road.specs.Table.{mostPlaces, mostMetres, metresRule, legCount}
 use Rattle.road.proofs.Table.{metres-short}
 use Rattle.dayfile.specs.declared.codec.Record.{Record}
 use Rattle.dayfile.specs.declared.scan.State.{State}
 use Rattle.dayfile.specs.Day.{mostCranes, mostCalls, stop}
 use Rattle.dayfile.specs.File.{answerOf}
-use Rattle.dayfile.specs.Legs.{leg, legCount, none}
+use Rattle.dayfile.specs.Legs.{leg, none}
 use Rattle.dayfile.specs.Scan.{Scan, counted, refuseAt, start, after, bareRefusal, formRefusal, legRefusal, stopRefusal, craneRefusal, callRefusal, recordRefusal, missingRefusal, endRefusal, scan}
 use Rattle.dayfile.proofs.Digits.{Fits, AllFit}
 use Rattle.dayfile.proofs.scan.Laws.{Accepted, a-leg, a-crane, a-call, accepted, leg-next, after-leg, after-crane, after-call, Progress, progress-start, progress-after}

@@ -10,10 +10,12 @@ use native.Mathlib.Nat.{add-assoc, not-suc-le-zero, le-of-suc-le-suc, eq-or-lt-o
 use native.Mathlib.Omega.{arith}
 use Rattle.base.specs.Lists.{upTo}
 use Rattle.base.proofs.Lists.{length-upTo, getD-upTo, upTo-same, part-upTo}
+use Rattle.road.specs.Table.{legCount}
+use Rattle.road.proofs.Table.{leg-count-suc, legs-before}
 use Rattle.dayfile.specs.declared.codec.Record.{Record}
 use Rattle.dayfile.specs.Day.{stop}
-use Rattle.dayfile.specs.Legs.{legCount, leg, legRecords, none}
-use Rattle.dayfile.proofs.legs.Laws.{leg-count-suc, length-legRecords, legs-before}
+use Rattle.dayfile.specs.Legs.{leg, legRecords, none}
+use Rattle.dayfile.proofs.legs.Laws.{length-legRecords}
 
 -- the records with the metres d, the starts a and the requests b
 abbrev pub laid : (ℕ → ℕ → ℕ) → ℕ → (ℕ → ℕ) → ℕ → (ℕ → ℕ) → ℕ → List Record

@@ -13,7 +13,8 @@ use Rattle.base.proofs.Lists.{length-upTo, getD-upTo, map-upTo}
 use Rattle.base.specs.Numbers.{_then_}
 use Rattle.base.proofs.Numbers.{unless-zero, then-zero, then-assoc, first-of}
 use Rattle.base.proofs.Tests.{within-yes, within-least, within-most, below-at, below-all}
-use Rattle.road.specs.Table.{Table, mostPlaces, metresOf, placesRule, placesRefusal, legsRule, legsRefusal, triangleRefusal}
+use Rattle.road.specs.Table.{Table, mostPlaces, legCount, placesRule, runRefusal, legsRule, legsRefusal, triangleRefusal}
+use Rattle.road.proofs.Table.{run-accepted, run-passes}
 use Rattle.road.proofs.Surveyed.{Surveyed, triangles-kept}
 use Rattle.dayfile.specs.declared.Day.{Day}
 use Rattle.dayfile.specs.Day.{mostCranes, mostCalls, cranesRule, callsRule, stopsRule, countsRefusal, stopsRefusal, dayStarts, dayRequests, DayArrays, placedRefusal, dayRefusal, stop, dayRecords}
@@ -46,38 +47,41 @@ module _ (day : Day) (arrays : DayArrays day) where
   length-requests h = length-take-le (day .calls) (day .requests) (enough-requests h)
 
 -- what the tests of the counts say
-pub record CountsTested (n k m : ℕ) : Type 0 where
+pub record CountsTested (n l k m : ℕ) : Type 0 where
   pub place : 1 ≤ n
   pub places : n ≤ mostPlaces
+  pub legs : l ≡ legCount n
   pub crane : 1 ≤ k
   pub cranes : k ≤ mostCranes
   pub calls : m ≤ mostCalls
 
-module _ (n k m : ℕ) where
-  pub counts-tested : countsRefusal n k m ≡ 0 → CountsTested n k m
+module _ (n l k m : ℕ) where
+  pub counts-tested : countsRefusal n l k m ≡ 0 → CountsTested n l k m
   unfolding countsRefusal
   counts-tested h =
-      let places = first-of (placesRule n) 2 _ h in
-      let cranes = first-of (cranesRule k) 5 _ (places .1) in
+      let both = then-zero (runRefusal n l) _ h in
+      let run = run-accepted n l (both .0) in
+      let cranes = first-of (cranesRule k) 5 _ (both .1) in
       record {
-        place = within-least 1 mostPlaces n (places .0);
-        places = within-most 1 mostPlaces n (places .0);
+        place = within-least 1 mostPlaces n (run .0);
+        places = within-most 1 mostPlaces n (run .0);
+        legs = run .1;
         crane = within-least 1 mostCranes k (cranes .0);
         cranes = within-most 1 mostCranes k (cranes .0);
         calls = leb-true m mostCalls (unless-zero (callsRule m) 6 (cranes .1));
       }
 
-  pub places-accepted : CountsTested n k m → placesRefusal n ≡ 0
-  places-accepted h = rw (within-yes 1 mostPlaces n (h .place) (h .places))
+  pub run-tested : CountsTested n l k m → runRefusal n l ≡ 0
+  run-tested h = run-passes n l (h .place) (h .places) (h .legs)
 
-  pub counts-accepted : CountsTested n k m → countsRefusal n k m ≡ 0
+  pub counts-accepted : CountsTested n l k m → countsRefusal n l k m ≡ 0
   unfolding countsRefusal
-  counts-accepted h = rw (places-accepted h, within-yes 1 mostCranes k (h .crane) (h .cranes), le-leb m mostCalls (h .calls))
+  counts-accepted h = rw (run-tested h, within-yes 1 mostCranes k (h .crane) (h .cranes), le-leb m mostCalls (h .calls))
 
 -- what the tests of a day say that come before the triangles
 pub record Placed (day : Day) (t : Table) : Type 0 where
-  pub counts : CountsTested (day .places) (day .cranes) (day .calls)
-  pub legs : legsRule (day .places) (metresOf t) ≡ true
+  pub counts : CountsTested (day .places) (length t) (day .cranes) (day .calls)
+  pub legs : legsRule t ≡ true
   pub starts : stopsRule (day .places) (dayStarts day) ≡ true
   pub requests : stopsRule (day .places) (dayRequests day) ≡ true
 
@@ -85,11 +89,11 @@ module _ (day : Day) (t : Table) where
   pub day-placed : placedRefusal day t ≡ 0 → Placed day t
   unfolding placedRefusal
   day-placed h =
-      let counts = then-zero (countsRefusal (day .places) (day .cranes) (day .calls)) _ h in
-      let legs = first-of (legsRule (day .places) (metresOf t)) 3 _ (counts .1) in
+      let counts = then-zero (countsRefusal (day .places) (length t) (day .cranes) (day .calls)) _ h in
+      let legs = first-of (legsRule t) 3 _ (counts .1) in
       let starts = first-of (stopsRule (day .places) (dayStarts day)) 4 _ (legs .1) in
       record {
-        counts = counts-tested (day .places) (day .cranes) (day .calls) (counts .0);
+        counts = counts-tested (day .places) (length t) (day .cranes) (day .calls) (counts .0);
         legs = legs .0;
         starts = starts .0;
         requests = unless-zero (stopsRule (day .places) (dayRequests day)) 4 (starts .1);
@@ -97,22 +101,22 @@ module _ (day : Day) (t : Table) where
 
   -- these tests one by one, before another
   pub placed-before : (r : ℕ) → (placedRefusal day t then r)
-      ≡ (countsRefusal (day .places) (day .cranes) (day .calls) then legsRefusal (day .places) t then stopsRefusal (day .places) (dayStarts day) then
+      ≡ (countsRefusal (day .places) (length t) (day .cranes) (day .calls) then legsRefusal t then stopsRefusal (day .places) (dayStarts day) then
       stopsRefusal (day .places) (dayRequests day) then r)
   unfolding placedRefusal
   placed-before r =
-      then-assoc (countsRefusal (day .places) (day .cranes) (day .calls)) _ r
-      ∙ ap (λ (x : ℕ). countsRefusal (day .places) (day .cranes) (day .calls) then x) (then-assoc (legsRefusal (day .places) t) _ r
-      ∙ ap (λ (x : ℕ). legsRefusal (day .places) t then x) (then-assoc (stopsRefusal (day .places) (dayStarts day)) _ r))
+      then-assoc (countsRefusal (day .places) (length t) (day .cranes) (day .calls)) _ r
+      ∙ ap (λ (x : ℕ). countsRefusal (day .places) (length t) (day .cranes) (day .calls) then x) (then-assoc (legsRefusal t) _ r
+      ∙ ap (λ (x : ℕ). legsRefusal t then x) (then-assoc (stopsRefusal (day .places) (dayStarts day)) _ r))
 
   pub placed-accepted : Placed day t → placedRefusal day t ≡ 0
   unfolding placedRefusal
   placed-accepted h =
-      rw (counts-accepted (day .places) (day .cranes) (day .calls) (h .counts), h .legs, h .starts, h .requests)
+      rw (counts-accepted (day .places) (length t) (day .cranes) (day .calls) (h .counts), h .legs, h .starts, h .requests)
 
 -- what all the tests of a day say
 pub record Tested (day : Day) (t : Table) : Type 0 where
-  pub counts : CountsTested (day .places) (day .cranes) (day .calls)
+  pub counts : CountsTested (day .places) (length t) (day .cranes) (day .calls)
   pub surveyed : Surveyed (day .places) t
   pub starts : stopsRule (day .places) (dayStarts day) ≡ true
   pub requests : stopsRule (day .places) (dayRequests day) ≡ true
@@ -120,7 +124,7 @@ pub record Tested (day : Day) (t : Table) : Type 0 where
 module _ (day : Day) (t : Table) where
   -- "In memory: 3, 6, 7, 4, 5 (starts, calls ..), 8", one by one
   pub day-order : dayRefusal day t
-      ≡ (countsRefusal (day .places) (day .cranes) (day .calls) then legsRefusal (day .places) t then stopsRefusal (day .places) (dayStarts day) then
+      ≡ (countsRefusal (day .places) (length t) (day .cranes) (day .calls) then legsRefusal t then stopsRefusal (day .places) (dayStarts day) then
       stopsRefusal (day .places) (dayRequests day) then triangleRefusal (day .places) t)
   unfolding dayRefusal
   day-order = placed-before day t (triangleRefusal (day .places) t)

@@ -12,13 +12,13 @@ use Rattle.base.specs.Lists.{splice}
 use Rattle.base.specs.Numbers.{unless, _then_, unlessRefused}
 use Rattle.base.proofs.Numbers.{then-zero, zeros-told, refused-first, accepted-values}
 use borrow.Author.Tests.{le-leb, lt-leb}
-use Rattle.road.specs.Table.{Table, metresOf}
+use Rattle.road.specs.Table.{Table, metresOf, legCount}
 use Rattle.dayfile.specs.declared.Day.{Day}
 use Rattle.dayfile.specs.declared.codec.Record.{Record}
 use Rattle.dayfile.specs.Codec.{encodeAll}
 use Rattle.dayfile.specs.Day.{dayStarts, dayRequests, stop, dayRecords}
 use Rattle.dayfile.specs.File.{Output, bytesWritten, outputBy, outputOf, dayBytes}
-use Rattle.dayfile.specs.Legs.{legCount, legRecords}
+use Rattle.dayfile.specs.Legs.{legRecords}
 use Rattle.dayfile.proofs.codec.Laws.{length-encodeAll, put-on}
 use Rattle.dayfile.proofs.legs.Laws.{length-legRecords}
 

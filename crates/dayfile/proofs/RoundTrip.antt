@@ -1,28 +1,29 @@
 -- The two round trips of document 01, of what reading and writing give: a file that is read and written is the same file, and a day
 -- that is written and read is the same day, with the same table. Assumes nothing.
 use Prim.Native.Nat.{ℕ, _+_, _*_, _%_, _<_, _≤_}
+use mathlib.Core.Bool.{true}
 use mathlib.Core.List.{List}
 use mathlib.Core.Path.{_≡_, refl, sym, ap, _∙_}
 use borrow.Author.Tests.{eqb-true, le-leb}
 use lib.Dec.{eqb}
 use lib.ListN.{length, getD}
-use native.Mathlib.Nat.{mul-mod-right}
+use lib.Seq.{take-all}
+use native.Mathlib.Nat.{mul-mod-right, le-of-eq}
 use native.Mathlib.Omega.{arith}
 use Rattle.base.specs.Lists.{upTo, splice}
-use Rattle.base.specs.Metric.{Metric}
 use Rattle.base.proofs.Lists.{upTo-same, take-upTo, take-padded, length-padded}
 use Rattle.base.proofs.Numbers.{first-of}
-use Rattle.base.proofs.Tests.{by-order}
-use Rattle.road.specs.Table.{Table, metresOf}
-use Rattle.road.proofs.Table.{legs-hold}
-use Rattle.road.proofs.Surveyed.{triangles-kept, surveyed-metric, same-triangles}
+use Rattle.base.proofs.Tests.{below-all}
+use Rattle.road.specs.Table.{Table, legCount, legIndex, metresOf, metresRule, legsRule}
+use Rattle.road.proofs.Table.{legs-before, each-leg, leg-count-most, metres-up}
+use Rattle.road.proofs.Surveyed.{triangles-kept}
 use Rattle.dayfile.specs.declared.Day.{Day}
 use Rattle.dayfile.specs.declared.codec.Record.{Record}
 use Rattle.dayfile.specs.declared.scan.State.{State}
 use Rattle.dayfile.specs.Codec.{records, encodeAll}
 use Rattle.dayfile.specs.Day.{mostCranes, mostCalls, dayStarts, dayRequests, DayArrays, SameDay, dayRefusal, dayRecords}
 use Rattle.dayfile.specs.File.{stopFrom, dayOf, readFile, readTable, bytesWritten, outputOf, dayBytes, writeFile}
-use Rattle.dayfile.specs.Legs.{legCount, leg, legTable, legMetres}
+use Rattle.dayfile.specs.Legs.{leg, metresAt, tableOf}
 use Rattle.dayfile.specs.Scan.{start, lengthRefusal}
 use Rattle.dayfile.proofs.Answers.{File, file-read, accepted-file}
 use Rattle.dayfile.proofs.Digits.{records-back, bytes-back}
@@ -32,7 +33,7 @@ use Rattle.dayfile.proofs.Grammar.{Run, Read, run-ended, run-progress, 
 use Rattle.dayfile.proofs.Runs.{state, run-day}
 use Rattle.dayfile.proofs.Outputs.{output-accepted, output-bytes}
 use Rattle.dayfile.proofs.codec.Laws.{length-encodeAll}
-use Rattle.dayfile.proofs.legs.Laws.{leg-count-most, between-up, between-down, between-self, between-both, table-at}
+use Rattle.dayfile.proofs.legs.Laws.{readRun, run-read, length-run, run-at, metres-read}
 use Rattle.dayfile.proofs.scan.Laws.{Progress, progress-start}
 
 -- the day and the table of an accepted file
@@ -41,7 +42,7 @@ module _ (bs : List ℕ) (all : List Record) (t : State) (file : File bs all t) 
   n = t .second
 
   abbrev made : Table
-  made = legTable n all
+  made = readRun n all
 
   abbrev d : ℕ → ℕ → ℕ
   d = metresOf made
@@ -60,27 +61,25 @@ module _ (bs : List ℕ) (all : List Record) (t : State) (file : File bs all t) 
   unfolding dayOf
   requests-read = take-padded mostCalls (t .calls) b 0
 
-  metres-read : (u v : ℕ) → u < v → v < n → d u v ≡ legMetres all u v
-  metres-read u v p q = table-at all u v n (omega arith) q ∙ between-up all u v p
-
   kept : Progress t (0 + length all)
   kept = run-progress (file .run) 0 progress-start
 
   read : Read all t
   read = all-read all (file .run)
 
+  legs-read : legsRule made ≡ true
+  legs-read =
+      rw (length-run n all)
+      (below-all _ (legCount n) (each-leg (λ (i : ℕ). metresRule (getD made i 0) ≡ true) n
+      (λ u v p q. rw (run-at n all (legIndex u v) (omega (arith, legs-before v n q))) (read .legs v q u p .1))))
+
   day-read : Tested (dayOf all t) made
   unfolding dayOf
   day-read =
       let ended = run-ended (file .run) in
       record {
-        counts = record { place = omega (arith, kept .ordered); places = kept .places; crane = ended .1; cranes = kept .cranes; calls = kept .calls };
-        surveyed = record {
-          legs = legs-hold n d (λ u p. table-at all u u n p p ∙ between-self all u u refl)
-              (λ u v p q. table-at all u v n p q ∙ between-both all u v ∙ sym (table-at all v u n q p))
-              (λ u v p q. rw (metres-read u v p q) (read .legs v q u p .1));
-          triangles = triangles-kept n made (file .triangles);
-        };
+        counts = record { place = omega (arith, kept .ordered); places = kept .places; legs = length-run n all; crane = ended .1; cranes = kept .cranes; calls = kept .calls };
+        surveyed = record { legs = legs-read; triangles = triangles-kept n made (file .triangles) };
         starts = rw starts-read (stops-hold n (t .cranes) a (λ j p. read .cranes j p .1));
         requests = rw requests-read (stops-hold n (t .calls) b (λ j p. read .calls j p .1));
       }
@@ -91,7 +90,7 @@ module _ (bs : List ℕ) (all : List Record) (t : State) (file : File bs all t) 
       day-laid (dayOf all t) d a b starts-read requests-read
       ∙ sym (laid-out d n a (t .cranes) b (t .calls) all (omega (arith, kept .index, run-ended (file .run)))
       (record {
-        legs = λ u v p q. read .legs v q u p .0 ∙ ap (leg u v) (sym (metres-read u v p q));
+        legs = λ u v p q. read .legs v q u p .0 ∙ ap (leg u v) (sym (metres-read n all u v p q));
         cranes = λ j p. read .cranes j p .0;
         calls = λ j p. read .calls j p .0;
       }))
@@ -128,21 +127,21 @@ file-round-trip bs out bytes h le =
 pub record Back (day : Day) (t : Table) (bs : List ℕ) : Type 0 where
   pub number : readFile bs .number ≡ 0
   pub same : SameDay (readFile bs .day) day
-  pub metres : (u v : ℕ) → u < day .places → v < day .places → metresOf (readTable bs) u v ≡ metresOf t u v
+  pub table : readTable bs ≡ t
 
 length-accepted : (n : ℕ) → n ≤ 2288 → lengthRefusal (12 * n) ≡ 0
 unfolding lengthRefusal
 length-accepted n h = rw (mul-mod-right 12 n, le-leb (12 * n) 27456 (omega arith))
 
--- records at their indices, with the metres of a metric, make its table
-table-back : (all : List Record) (d : ℕ → ℕ → ℕ) (n : ℕ) (a : ℕ → ℕ) (k : ℕ) (b : ℕ → ℕ) (m : ℕ) → Laid all d n a k b m → Metric n d
-    → (u v : ℕ) → u < n → v < n → metresOf (legTable n all) u v ≡ d u v
-table-back all d n a k b m h metric u v p q =
-    table-at all u v n p q
-    ∙ by-order u v
-    (λ (l : u < v). between-up all u v l ∙ ap (λ (r : Record). r .metres) (h .legs u v l q))
-    (λ (e : u ≡ v). between-self all u v e ∙ sym (metric .self u p) ∙ ap (d u) e)
-    (λ (l : v < u). between-down all u v l ∙ ap (λ (r : Record). r .metres) (h .legs v u l p) ∙ metric .both-ways v u q p)
+-- records at their indices, with the metres of a run, make that run
+run-back : (all : List Record) (t : Table) (n : ℕ) (a : ℕ → ℕ) (k : ℕ) (b : ℕ → ℕ) (m : ℕ) → Laid all (metresOf t) n a k b m → length t ≡ legCount n
+    → readRun n all ≡ t
+run-back all t n a k b m h long =
+    run-read n all
+    ∙ upTo-same (legCount n) (metresAt all) (λ i. getD t i 0)
+    (each-leg (λ (i : ℕ). metresAt all i ≡ getD t i 0) n (λ u v p q. ap (λ (r : Record). r .metres) (h .legs u v p q) ∙ metres-up t u v p))
+    ∙ sym (take-upTo (legCount n) t 0 (le-of-eq (sym long)))
+    ∙ take-all (legCount n) t (le-of-eq long)
 
 module _ (day : Day) (t : Table) (tests : Tested day t) (arrays : DayArrays day) where
   abbrev given : ℕ → ℕ → ℕ
@@ -169,8 +168,8 @@ module _ (day : Day) (t : Table) (tests : Tested day t) (arrays : DayArrays day)
   at : Laid rs given (day .places) from (day .cranes) to (day .calls)
   at = laid-at given (day .places) from (day .cranes) to (day .calls)
 
-  table : (u v : ℕ) → u < day .places → v < day .places → metresOf (legTable (day .places) rs) u v ≡ given u v
-  table = table-back rs given (day .places) from (day .cranes) to (day .calls) at (surveyed-metric (tests .surveyed))
+  table : readRun (day .places) rs ≡ t
+  table = run-back rs t (day .places) from (day .cranes) to (day .calls) at (tests .counts .legs)
 
   written : File (encodeAll rs) rs end
   written =
@@ -180,7 +179,7 @@ module _ (day : Day) (t : Table) (tests : Tested day t) (arrays : DayArrays day)
         fits = rw (length-encodeAll rs) (length-accepted (length rs) count);
         same = records-back rs (run-fits run 0 progress-start);
         run = run;
-        triangles = rw (same-triangles (day .places) _ t table, tests .surveyed .triangles);
+        triangles = rw (table, tests .surveyed .triangles);
       }
 
   same-day : SameDay (dayOf rs end) day
@@ -197,9 +196,9 @@ module _ (day : Day) (t : Table) (tests : Tested day t) (arrays : DayArrays day)
   unfolding dayOf
   back =
       let bs : List ℕ = encodeAll rs in
-      let e : readFile bs ≡ record { number = 0; index = 0; day = dayOf rs end } = file-read bs rs end written in
+      let e : readFile bs ≡ record { number = 0; index = 0; day = dayOf rs end; table = tableOf (day .places) rs } = file-read bs rs end written in
       rw (day-laid day given from to starts-written requests-written)
-      (record { number = rw e; same = rw e same-day; metres = λ u v p q. rw (e, written .same) (table u v p q) })
+      (record { number = rw e; same = rw e same-day; table = rw e table })
 
 -- day → file → day: where a day is written, what is read of the bytes written is the same day, with the same table
 pub day-round-trip : (day : Day) (t : Table) (out : List ℕ) → DayArrays day → writeFile day t out .number ≡ 0

@@ -80,7 +80,7 @@ module _ (day : Day) (t : Table) (a b : ℕ → ℕ) (starts : dayStarts day ≡
   run-day h =
       let from = stops-at (day .places) (day .cranes) a (rw starts at (h .starts)) in
       let to = stops-at (day .places) (day .calls) b (rw requests at (h .requests)) in
-      run-legs (metresOf t) (day .places) (h .counts .place) (h .counts .places) (leg-metres (day .places) (metresOf t) (h .surveyed .legs))
+      run-legs (metresOf t) (day .places) (h .counts .place) (h .counts .places) (λ u v p q. leg-metres t (h .surveyed .legs) u v)
       (led-by (day .cranes) (λ j. stop 2 (a j)) (λ j. state 0 (day .places) j 0) (λ j p. (a-crane refl refl refl (from j p) (omega arith), refl))
       (rw (← append-nil (upTo (day .calls) (λ j. stop 3 (b j))))
       (led-by (day .calls) (λ j. stop 3 (b j)) (λ j. state 0 (day .places) (day .cranes) j) (λ j p. (a-call refl refl (to j p) (h .counts .crane) (omega arith), refl))

@@ -1,10 +1,10 @@
 -- The laws of the number of places and of legs, of the metres of a table, and of the rule of its legs.
 -- Assumes nothing.
-use Prim.Native.Nat.{ℕ, zero, suc, _+_, _*_, _<_, _≤_, zero-le}
+use Prim.Native.Nat.{ℕ, zero, suc, _+_, _-_, _*_, _<_, _≤_, zero-le}
 use mathlib.Core.Bool.{true, and-false, and-comm}
 use mathlib.Core.Logic.{⊎-elim}
-use mathlib.Core.Path.{_≡_, refl, sym, ap, _∙_}
-use borrow.Author.Tests.{leb-true, le-leb, lt-ltb, le-ltb, eqb-true}
+use mathlib.Core.Path.{_≡_, refl, sym, ap, subst, _∙_}
+use borrow.Author.Tests.{leb-true, le-leb, lt-ltb, le-ltb, eqb-true, eq-eqb}
 use lib.Dec.{ltb, eqb}
 use lib.ListN.{length, getD, List·getD-eq-default}
 use native.Mathlib.Decide.{decLt}
@@ -15,7 +15,7 @@ use Rattle.base.specs.declared.Verdict.{Verdict}
 use Rattle.base.specs.declared.Verdict.the-variants.{Accepted}
 use Rattle.base.specs.Numbers.{numberOf}
 use Rattle.base.proofs.Numbers.{accepts, holds, first-of, unless-zero}
-use Rattle.base.proofs.Tests.{by-order, within-most, below-at, below-all}
+use Rattle.base.proofs.Tests.{by-order, within-yes, within-most, below-at}
 use Rattle.road.specs.Table.{Table, mostPlaces, mostMetres, mostLegs, legCount, legIndex, legsOf, metresOf, entry, placesRule, placesRefusal, runRefusal, metresRule, legsRule}
 
 twice : (w : ℕ) → suc (suc w) * suc w ≡ suc w * w + suc w * 2
@@ -31,7 +31,11 @@ leg-count-suc (suc w) =
 pub leg-count-more : (v : ℕ) → legCount (v + 1) ≡ legCount v + v
 leg-count-more v = rw add-one (leg-count-suc v)
 
-pub all-legs : legCount mostPlaces ≡ mostLegs
+no-legs : legCount 0 ≡ 0
+unfolding legCount
+no-legs = refl
+
+all-legs : legCount mostPlaces ≡ mostLegs
 unfolding legCount
 all-legs = refl
 
@@ -45,6 +49,17 @@ legs-before v (suc n) p =
 pub leg-count-most : (n : ℕ) → n ≤ mostPlaces → legCount n ≤ mostLegs
 leg-count-most n p =
     ⊎-elim (λ (e : n ≡ mostPlaces). omega (arith, ap legCount e, all-legs)) (λ (l : n < mostPlaces). omega (arith, legs-before n mostPlaces l, all-legs)) (eq-or-lt-of-le p)
+
+-- every index below the number of legs is a leg's
+pub each-leg : (P : ℕ → Type 0) (n : ℕ) → ((u v : ℕ) → u < v → v < n → P (legIndex u v)) → (i : ℕ) → i < legCount n → P i
+each-leg P zero all i lt = absurd (omega (arith, no-legs))
+each-leg P (suc n) all i lt = either (λ before. each-leg P n (λ u v p q. all u v p (omega arith)) i before) (decLt i (legCount n))
+  where
+    either : (i < legCount n → P i) → Dec (i < legCount n) → P i
+    either below (yes before) = below before
+    either below (no past) =
+        let u : ℕ = i - legCount n in
+        subst P (omega arith) (all u n (omega (arith, leg-count-suc n)) (omega arith))
 
 -- the legs of a table that may be
 pub legs-counted : (n : ℕ) → n ≤ mostPlaces → legsOf n ≡ legCount n
@@ -93,6 +108,10 @@ unfolding runRefusal
 run-accepted n l h =
     let both = first-of (placesRule n) 2 _ h in
     (both .0, eqb-true l (legCount n) (unless-zero (eqb l (legCount n)) 2 (both .1)))
+
+pub run-passes : (n l : ℕ) → 1 ≤ n → n ≤ mostPlaces → l ≡ legCount n → runRefusal n l ≡ 0
+unfolding runRefusal
+run-passes n l least most e = rw (within-yes 1 mostPlaces n least most, eq-eqb l (legCount n) e)
 
 pub run-held : (v : Verdict) (n l : ℕ) → v ≡ Accepted → numberOf v ≡ runRefusal n l → (n ≤ mostPlaces) × (legCount n ≤ l)
 run-held v n l e h =

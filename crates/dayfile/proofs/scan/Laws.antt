@@ -15,12 +15,12 @@ use Rattle.base.specs.Numbers.{unless}
 use Rattle.base.specs.Tests.{within}
 use Rattle.base.proofs.Numbers.{unless-zero, then-zero, first-of, zeros-told}
 use Rattle.base.proofs.Tests.{within-least, within-most}
-use Rattle.road.specs.Table.{mostPlaces, metresRefusal}
+use Rattle.road.specs.Table.{mostPlaces, metresRefusal, legCount}
+use Rattle.road.proofs.Table.{leg-count-more}
 use Rattle.dayfile.specs.declared.codec.Record.{Record}
 use Rattle.dayfile.specs.declared.scan.State.{State}
 use Rattle.dayfile.specs.Day.{mostCranes, mostCalls, stop}
-use Rattle.dayfile.specs.Legs.{leg, legCount, none}
-use Rattle.dayfile.proofs.legs.Laws.{leg-count-more}
+use Rattle.dayfile.specs.Legs.{leg, none}
 use Rattle.dayfile.specs.Scan.{Scan, refused, counted, refuseAt, scan, endRefusal, byKind, start, afterLeg, after, bareRefusal, formRefusal, legRefusal, stopRefusal, craneRefusal, callRefusal, recordRefusal}
 
 -- an accepted record, by its kind

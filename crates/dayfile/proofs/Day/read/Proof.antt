@@ -1,20 +1,24 @@
 -- `dayfile::Day::read` meets its contract: each refusal is handed up with its index, and what passes all tests is the day.
 -- Assumes nothing.
-use Prim.Native.Nat.{_/_}
+use Prim.Native.Nat.{ℕ, _/_, _≤_}
+use mathlib.Core.List.{List}
 use mathlib.Core.Path.{_≡_, refl, sym, ap, _∙_}
 use borrow.Author.Needs.{needs}
-use lib.ListN.{length}
+use lib.ListN.{length, take}
+use lib.Seq.{length-take-le}
 use native.Mathlib.Omega.{arith}
-use Rattle.base.specs.Numbers.{numberOf}
+use Rattle.base.specs.Numbers.{numberOf, _then_}
 use Rattle.base.specs.declared.Verdict.{Verdict}
 use Rattle.base.proofs.Numbers.{accepts, asked-again, refused-number}
-use Rattle.base.proofs.Tests.{within-yes}
-use Rattle.road.specs.Table.{mostPlaces, placesRefusal, triangleRefusal}
+use Rattle.road.specs.Table.{mostPlaces, legCount, runRefusal, triangleRefusal}
+use Rattle.road.proofs.Table.{legs-counted, leg-count-most, run-passes}
+use Rattle.dayfile.specs.declared.codec.Record.{Record}
 use Rattle.dayfile.specs.Codec.{records}
-use Rattle.dayfile.specs.Legs.{legTable}
+use Rattle.dayfile.specs.Legs.{tableOf}
 use Rattle.dayfile.specs.Scan.{counted, refuseAt, start, lengthRefusal, scan}
 use Rattle.dayfile.proofs.Answers.{length-refused, record-refused, way-refused, scanned-run, progress-read, file-read}
 use Rattle.dayfile.proofs.Grammar.{Run}
+use Rattle.dayfile.proofs.legs.Laws.{readRun, length-run}
 use Rattle.dayfile.proofs.scan.Laws.{Progress}
 use Rattle.dayfile.proofs.Day.read.Statement.{statement}
 use Rattle.dayfile.proofs.Day.read.Tie as tie
@@ -34,14 +38,21 @@ run c = scanned-run _ _ (read-all c)
 kept : (c : tie.After-enum-told3) → let f = c .before .before in Progress (f .scan .result .state) (length (f .before .before .before .before .before .args .bytes .now) / 12)
 kept c = progress-read _ _ (run c)
 
--- 3 does not apply to the number of places read, so the test of the ways between them decides
-ways : (c : tie.After-test-triangles) → let f = c .before .before .before .before .before in let n = f .scan .result .state .second in
-    numberOf (c .test-triangles .result) ≡ triangleRefusal n (legTable n (records (f .before .before .before .before .before .args .bytes .now)))
+-- the run of the places read is the front of the table
+legs : (c : tie.After-legs) → c .legs .result ≡ legCount (c .before .before .before .before .before .scan .result .state .second)
+legs c = c .legs .ensures ∙ legs-counted _ (kept (c .before .before .before) .places)
+
+ways-asked : (n l : ℕ) (array : List ℕ) (rs : List Record) (number : ℕ) → 1 ≤ n → n ≤ mostPlaces → l ≡ legCount n → array ≡ tableOf n rs
+    → number ≡ (runRefusal n (length (take l array)) then triangleRefusal n (take l array)) → number ≡ triangleRefusal n (readRun n rs)
+ways-asked n l array rs number least most e f told =
+    asked-again (runRefusal n (length (readRun n rs))) _ number (run-passes n _ least most (length-run n rs)) (rw (e, f) at told)
+
+-- 3 does not apply to the run of the places read, so the test of the ways between them decides
+ways : (c : tie.After-test-triangles) → let f = c .before .before .before .before .before .before .before in let n = f .scan .result .state .second in
+    numberOf (c .test-triangles .result) ≡ triangleRefusal n (readRun n (records (f .before .before .before .before .before .args .bytes .now)))
 ways c =
-    let k = kept (c .before .before .before) in
-    let n = c .before .before .before .before .before .scan .result .state .second in
-    let placed : placesRefusal n ≡ 0 = rw (within-yes 1 mostPlaces n (omega arith) (k .places)) in
-    asked-again _ _ _ placed (rw (c .before .table .ensures) at (c .test-triangles .ensures))
+    let k = kept (c .before .before .before .before .before) in
+    ways-asked _ _ _ _ _ (omega arith) (k .places) (legs (c .before .before)) (c .before .before .before .table .ensures) (c .test-triangles .ensures)
 
 test-length-requires : tie.Need-test-length-requires
 test-length-requires c κs = search needs
@@ -83,6 +94,15 @@ table-requires c κs =
     let k = kept (c .before) in
     (k .places, omega arith)
 
+legs-requires : tie.Need-legs-requires
+legs-requires c κs = search needs
+
+array-share-prefix-table : tie.Need-array-share-prefix-table
+array-share-prefix-table c = let h = leg-count-most _ (kept (c .before .before .before) .places) in let e = legs c in search needs
+
+slice-aggregate-test-triangles : tie.Need-slice-aggregate-test-triangles
+slice-aggregate-test-triangles c = sym (length-take-le _ _ (array-share-prefix-table (c .before)))
+
 test-triangles-requires : tie.Need-test-triangles-requires
 test-triangles-requires c κs = search needs
 
@@ -99,21 +119,21 @@ returns-3 : tie.Need-returns-3
 returns-3 c =
     let e = c .before .enum-told6 .given in
     let t = c .before .before .before in
-    let r = t .before .before .before in
+    let r = t .before .before .before .before .before in
     c .refused3 .ensures
     ∙ way-refused _ (long (r .before .before .before)) _ (read-all r) _ (ways t) (refused-number _ (e .0 .0) (e .1))
 
 day-requires : tie.Need-day-requires
 day-requires c κs =
-    let k = kept (c .before .before .before .before .before) in
+    let k = kept (c .before .before .before .before .before .before .before) in
     record { places = k .places; cranes = k .cranes; calls = k .calls; long = omega arith }
 
 returns-4 : tie.Need-returns-4
 returns-4 c =
     let t = c .before .before .before in
-    let r = t .before .before .before in
+    let r = t .before .before .before .before .before in
     let passed = sym (ways t) ∙ ap numberOf (c .before .enum-told5 .given .1) in
-    rw (c .day .ensures)
+    rw (c .day .ensures, t .before .before .before .table .ensures)
     (sym (file-read _ _ _ (record { fits = long (r .before .before .before); same = refl; run = run r; triangles = passed })))
 
 pub read-spec : {M : Type 1} → statement M
@@ -131,6 +151,9 @@ read-spec =
     refused-requires-2
     returns-2
     table-requires
+    legs-requires
+    array-share-prefix-table
+    slice-aggregate-test-triangles
     test-triangles-requires
     enum-told-5
     enum-told-6

@@ -3,12 +3,12 @@
 use borrow.Author.Needs.{needs}
 use Rattle.base.proofs.Numbers.{accepts, asked-again, goes-on, handed-up}
 use Rattle.dayfile.specs.Day.{dayRefusal}
-use Rattle.dayfile.proofs.Limits.{Placed, day-placed, places-accepted}
+use Rattle.dayfile.proofs.Limits.{Placed, day-placed, run-tested}
 use Rattle.dayfile.proofs.Day.test.Statement.{statement}
 use Rattle.dayfile.proofs.Day.test.Tie as tie
 
 -- what the tests before the triangles tell once they accepted
-placed : (c : tie.After-enum-told) → let a = c .before .before .before .args in Placed (a .self) (a .table)
+placed : (c : tie.After-enum-told) → let a = c .before .before .before .before .args in Placed (a .self) (a .table .now)
 placed c = day-placed _ _ (accepts _ _ (c .enum-told .given .1) (c .before .before .test-placed .ensures))
 
 test-placed-requires : tie.Need-test-placed-requires
@@ -34,7 +34,7 @@ unfolding dayRefusal
 returns-2 c =
     let p = c .before in
     goes-on _ _ _ _ (p .enum-told .given .1) (p .before .before .test-placed .ensures)
-    (asked-again _ _ _ (places-accepted _ _ _ (placed p .counts)) (c .test-triangles .ensures))
+    (asked-again _ _ _ (run-tested _ _ _ _ (placed p .counts)) (c .test-triangles .ensures))
 
 pub test-spec : {M : Type 1} → statement M
 test-spec =

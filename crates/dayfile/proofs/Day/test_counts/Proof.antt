@@ -7,17 +7,17 @@ use borrow.Author.Tests.{le-leb, lt-leb}
 use Rattle.base.specs.Numbers.{_then_}
 use Rattle.base.proofs.Numbers.{goes-on, handed-up}
 use Rattle.base.proofs.Tests.{within-yes, within-below, within-above}
-use Rattle.road.specs.Table.{placesRefusal}
+use Rattle.road.specs.Table.{runRefusal}
 use Rattle.dayfile.specs.Day.{mostCranes, mostCalls, countsRefusal}
 use Rattle.dayfile.proofs.Day.test_counts.Statement.{statement}
 use Rattle.dayfile.proofs.Day.test_counts.Tie as tie
 
 -- once 3 does not apply, the next tests decide
-placed : (c : tie.After-enum-told) (t n : ℕ) → n ≡ t → n ≡ (placesRefusal (c .before .before .before .args .places) then t)
-placed c t n q = goes-on _ _ t n (c .enum-told .given .1) (c .before .before .test-places .ensures) q
+placed : (c : tie.After-enum-told) (t n : ℕ) → n ≡ t → n ≡ (runRefusal (c .before .before .before .args .places) (c .before .before .before .args .legs) then t)
+placed c t n q = goes-on _ _ t n (c .enum-told .given .1) (c .before .before .test-run .ensures) q
 
-test-places-requires : tie.Need-test-places-requires
-test-places-requires c κs = search needs
+test-run-requires : tie.Need-test-run-requires
+test-run-requires c κs = search needs
 
 enum-told : tie.Need-enum-told
 enum-told c = search needs
@@ -29,7 +29,7 @@ returns : tie.Need-returns
 unfolding countsRefusal
 returns c =
     let e = c .enum-told2 .given in
-    handed-up _ (e .0 .0) (e .1) _ _ (c .before .before .test-places .ensures)
+    handed-up _ (e .0 .0) (e .1) _ _ (c .before .before .test-run .ensures)
 
 returns-2 : tie.Need-returns-2
 unfolding countsRefusal
@@ -55,7 +55,7 @@ pub test-counts-spec : {M : Type 1} → statement M
 test-counts-spec =
     tie.close
     (tie.spec
-    test-places-requires
+    test-run-requires
     enum-told
     enum-told-2
     returns

@@ -5,31 +5,33 @@ use mathlib.Core.Path.{_≡_, sym}
 use borrow.Author.Needs.{needs}
 use Rattle.base.specs.Numbers.{_then_}
 use Rattle.base.proofs.Numbers.{accepts, asked-again, goes-on, handed-up}
+use lib.ListN.{length}
 use Rattle.road.specs.Table.{legsRefusal}
 use Rattle.dayfile.specs.Day.{countsRefusal, stopsRefusal, dayStarts, DayArrays, placedRefusal}
-use Rattle.dayfile.proofs.Limits.{CountsTested, counts-tested, places-accepted, enough-starts, enough-requests, length-starts, length-requests}
+use Rattle.dayfile.proofs.Limits.{CountsTested, counts-tested, run-tested, enough-starts, enough-requests, length-starts, length-requests}
 use Rattle.dayfile.proofs.Day.test_placed.Statement.{statement}
 use Rattle.dayfile.proofs.Day.test_placed.Tie as tie
 
 -- what the numbers tested first tell
-counted-so : (c : tie.After-enum-told) → let a = c .before .before .before .before .before .args .self in CountsTested (a .places) (a .cranes) (a .calls)
-counted-so c = counts-tested _ _ _ (accepts _ _ (c .enum-told .given .1) (c .before .before .test-counts .ensures))
+counted-so : (c : tie.After-enum-told) → let a = c .before .before .before .before .before .before .args in CountsTested (a .self .places) (length (a .table .now)) (a .self .cranes) (a .self .calls)
+counted-so c = counts-tested _ _ _ _ (accepts _ _ (c .enum-told .given .1) (c .before .before .test-counts .ensures))
 
-arrays : (c : tie.After-enum-told) → DayArrays (c .before .before .before .before .before .args .self)
+arrays : (c : tie.After-enum-told) → DayArrays (c .before .before .before .before .before .before .args .self)
 arrays c = record { starts = search needs; requests = search needs }
 
 -- where the tests so far accepted, the next decides
 counts : (c : tie.After-enum-told) (t n : ℕ) → n ≡ t
-    → let a = c .before .before .before .before .before .args .self in n ≡ (countsRefusal (a .places) (a .cranes) (a .calls) then t)
+    → let a = c .before .before .before .before .before .before .args in
+    n ≡ (countsRefusal (a .self .places) (length (a .table .now)) (a .self .cranes) (a .self .calls) then t)
 counts c t n q = goes-on _ _ t n (c .enum-told .given .1) (c .before .before .test-counts .ensures) q
 
 legs : (c : tie.After-enum-told3) (t n : ℕ) → n ≡ t
-    → let a = c .before .before .before .before .before .before .before .before .args in n ≡ (legsRefusal (a .self .places) (a .table) then t)
+    → let a = c .before .before .before .before .before .before .before .before .before .args in n ≡ (legsRefusal (a .table .now) then t)
 legs c t n q =
-    goes-on _ _ t n (c .enum-told3 .given .1) (asked-again _ _ _ (places-accepted _ _ _ (counted-so (c .before .before .before))) (c .before .before .test-legs .ensures)) q
+    goes-on _ _ t n (c .enum-told3 .given .1) (asked-again _ _ _ (run-tested _ _ _ _ (counted-so (c .before .before .before))) (c .before .before .test-legs .ensures)) q
 
 starts : (c : tie.After-enum-told5) (t n : ℕ) → n ≡ t
-    → let a = c .before .before .before .before .before .before .before .before .before .before .before .before .args .self in
+    → let a = c .before .before .before .before .before .before .before .before .before .before .before .before .before .args .self in
     n ≡ (stopsRefusal (a .places) (dayStarts a) then t)
 starts c t n q = goes-on _ _ t n (c .enum-told5 .given .1) (c .before .before .test-stops .ensures) q
 
@@ -62,7 +64,7 @@ unfolding placedRefusal
 returns-2 c =
     let e = c .enum-told4 .given in
     let k = c .before .before .before in
-    counts k _ _ (handed-up _ (e .0 .0) (e .1) _ _ (asked-again _ _ _ (places-accepted _ _ _ (counted-so k)) (c .before .before .test-legs .ensures)))
+    counts k _ _ (handed-up _ (e .0 .0) (e .1) _ _ (asked-again _ _ _ (run-tested _ _ _ _ (counted-so k)) (c .before .before .test-legs .ensures)))
 
 array-share-prefix-starts : tie.Need-array-share-prefix-starts
 array-share-prefix-starts c = let k = c .before .before .before in enough-starts _ (arrays k) (counted-so k .cranes)

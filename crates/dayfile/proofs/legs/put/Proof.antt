@@ -9,11 +9,12 @@ use native.Mathlib.Nat.{zero-add}
 use native.Mathlib.Omega.{arith}
 use Rattle.base.specs.Lists.{upTo, splice}
 use Rattle.base.proofs.Lists.{splice-ended}
-use Rattle.road.specs.Table.{metresOf}
+use Rattle.road.specs.Table.{metresOf, legCount}
+use Rattle.road.proofs.Table.{legs-before, leg-count-more}
 use Rattle.dayfile.specs.Codec.{encodeAll}
-use Rattle.dayfile.specs.Legs.{legCount, leg, legRecords}
+use Rattle.dayfile.specs.Legs.{leg, legRecords}
 use Rattle.dayfile.proofs.codec.Laws.{Put, put-begun, put-turned}
-use Rattle.dayfile.proofs.legs.Laws.{legs-before, leg-count-more, legRecords-more, length-legRecords}
+use Rattle.dayfile.proofs.legs.Laws.{legRecords-more, length-legRecords}
 use Rattle.dayfile.proofs.legs.put.Statement.{statement}
 use Rattle.dayfile.proofs.legs.put.Tie as tie
 
@@ -48,7 +49,7 @@ loop-less c = search needs
 loop-again : tie.Need-loop-again Inv-loop μ-loop
 loop-again c =
     let l = c .before .before .before .before .before in
-    row-put _ _ _ _ _ _ (l .before .before .pre .1) (l .loop .inv) (c .before .before .before .before .loop-test .taken) (c .before .before .put-to .ensures)
+    row-put _ _ _ _ _ _ (l .before .before .before .pre .1) (l .loop .inv) (c .before .before .before .before .loop-test .taken) (c .before .before .put-to .ensures)
 
 same-length : tie.Need-same-length Inv-loop μ-loop
 same-length c = search needs

@@ -1,13 +1,14 @@
 -- `dayfile::legs::put_to` meets its contract: the loop writes the legs' records one behind another.
 -- Assumes nothing.
 use Prim.Native.Nat.{_-_}
-use mathlib.Core.Path.{ap, _∙_}
+use mathlib.Core.Path.{_≡_, ap, _∙_}
 use borrow.Author.Needs.{needs}
+use native.Mathlib.Nat.{le-of-lt}
 use native.Mathlib.Omega.{arith}
 use Rattle.base.specs.Lists.{upTo}
 use Rattle.base.proofs.Lists.{splice-ended}
-use Rattle.road.specs.Table.{metresOf}
-use Rattle.road.proofs.Table.{entry-in}
+use Rattle.road.specs.Table.{legCount, metresOf}
+use Rattle.road.proofs.Table.{legs-counted, entry-in}
 use Rattle.dayfile.specs.Legs.{leg}
 use Rattle.dayfile.proofs.codec.Laws.{Put, put-one-begun, put-one-turned}
 use Rattle.dayfile.proofs.legs.put_to.Statement.{statement}
@@ -19,11 +20,15 @@ Inv-loop table v out₀ from u₀ out u = Put (λ k. upTo k (λ j. leg j v (metr
 abbrev μ-loop : tie.MeasureT-loop
 μ-loop table v out₀ from u₀ out u = v - u
 
-count-requires : tie.Need-count-requires Inv-loop μ-loop
-count-requires c κs = search needs
+-- the legs before those to v
+counted : (c : tie.After-legs Inv-loop μ-loop) → c .legs .result ≡ legCount (c .before .before .before .args .v)
+counted c = c .legs .ensures ∙ legs-counted _ (le-of-lt (c .before .before .before .pre .0))
+
+legs-requires : tie.Need-legs-requires Inv-loop μ-loop
+legs-requires c κs = search needs
 
 loop-holds : tie.Need-loop-holds Inv-loop μ-loop
-loop-holds c = put-one-begun _ _ _ _ (rw (c .count .ensures) (c .before .before .pre .1))
+loop-holds c = put-one-begun _ _ _ _ (rw (counted c) (c .before .before .before .pre .1))
 
 cast-t8 : tie.Need-cast-t8 Inv-loop μ-loop
 cast-t8 c = search needs
@@ -35,13 +40,13 @@ metres-requires : tie.Need-metres-requires Inv-loop μ-loop
 metres-requires c κs = search needs
 
 add-put : tie.Need-add-put Inv-loop μ-loop
-add-put c = search needs
+add-put c = let h = counted (c .before .before .before .before) in search needs
 
 mul-put : tie.Need-mul-put Inv-loop μ-loop
-mul-put c = search needs
+mul-put c = let h = counted (c .before .before .before .before) in search needs
 
 put-requires : tie.Need-put-requires Inv-loop μ-loop
-put-requires c κs = search needs
+put-requires c κs = let h = counted (c .before .before .before .before) in search needs
 
 add-u : tie.Need-add-u Inv-loop μ-loop
 add-u c = search needs
@@ -53,14 +58,14 @@ loop-again : tie.Need-loop-again Inv-loop μ-loop
 loop-again c =
     let l = c .before .before .before .before .before .before in
     let m = c .before .before .before .before in
-    put-one-turned _ _ _ _ (rw (l .before .count .ensures) (l .before .before .before .pre .1)) _ _ _ _ (l .loop .inv) (omega arith)
+    put-one-turned _ _ _ _ (rw (counted (l .before)) (l .before .before .before .before .pre .1)) _ _ _ _ (l .loop .inv) (omega arith)
     (ap (leg _ _) (m .metres .ensures ∙ entry-in _ _ _ (omega arith) (omega arith))) (c .before .before .put .ensures)
 
 same-length : tie.Need-same-length Inv-loop μ-loop
 same-length c = search needs
 
 returns : tie.Need-returns Inv-loop μ-loop
-returns c = rw (← c .before .before .count .ensures) (splice-ended _ _ _ _ _ _ (c .before .loop .inv) (c .loop-test .left))
+returns c = rw (← counted (c .before .before)) (splice-ended _ _ _ _ _ _ (c .before .loop .inv) (c .loop-test .left))
 
 pub put-to-spec : {M : Type 1} → statement M
 put-to-spec =
@@ -68,7 +73,7 @@ put-to-spec =
     (tie.spec
     Inv-loop
     μ-loop
-    count-requires
+    legs-requires
     loop-holds
     cast-t8
     cast-t9
