@@ -123,7 +123,7 @@ module _ (day : Day) (t : Table) (arrays : DayArrays day) (h : dayRefusal day t 
       let c = tests .counts in
       placed-accepted (bookDay (freshBook k (day .starts)) (day .places)) t
       (record {
-        counts = record { place = c .place; places = c .places; crane = c .crane; cranes = c .cranes; calls = zero-le };
+        counts = record { place = c .place; places = c .places; legs = c .legs; crane = c .crane; cranes = c .cranes; calls = zero-le };
         legs = tests .surveyed .legs;
         starts = rw (take-padded mostCranes k start 0) started;
         requests = refl;

@@ -1,5 +1,5 @@
--- "Entries past the counts, the road table's included, are ignored on the way in": books that are the same, with tables that agree
--- between the places, are tested alike, and days that are the same are opened alike. Assumes nothing.
+-- "Entries past the counts .. are ignored on the way in": books that are the same are tested alike, and days that are the same are
+-- opened alike. Assumes nothing.
 use Prim.Native.Nat.{ℕ, zero, suc, _<_}
 use mathlib.Core.Path.{_≡_, refl, ap}
 use lib.IntN.{pos}
@@ -10,7 +10,6 @@ use Rattle.base.proofs.Lists.{kept-same}
 use Rattle.base.proofs.Numbers.{unless-zero}
 use Rattle.base.proofs.Tests.{below-same}
 use Rattle.road.specs.Table.{Table, metresOf}
-use Rattle.road.proofs.Surveyed.{same-triangles}
 use Rattle.dayfile.specs.declared.Day.{Day}
 use Rattle.dayfile.specs.Day.{mostCranes, mostCalls, SameDay}
 use Rattle.dayfile.proofs.Ignored.{same-placed, same-refusal}
@@ -37,28 +36,27 @@ same-plan k n f g same =
 
 -- ---- a book
 
-module _ (a b : Book) (n : ℕ) (t s : Table) (books : SameBook a b)
-    (tables : (u v : ℕ) → u < n → v < n → metresOf t u v ≡ metresOf s u v) where
+module _ (a b : Book) (n : ℕ) (t : Table) (books : SameBook a b) where
   -- as a day
   days : SameDay (bookDay a n) (bookDay b n)
   days = record { places = refl; cranes = books .cranes; calls = books .calls; starts = books .starts; requests = books .requests }
 
-  pub past-counts-ignored : bookRefusal a n t ≡ bookRefusal b n s
+  pub past-counts-ignored : bookRefusal a n t ≡ bookRefusal b n t
   unfolding bookRefusal
   past-counts-ignored =
-      same-tests _ _ _ _ (same-placed (bookDay a n) (bookDay b n) t s days tables) (λ c.
+      same-tests _ _ _ _ (same-placed (bookDay a n) (bookDay b n) t days) (λ c.
       let day = day-placed (bookDay a n) t c in
       rw (books .starts, books .requests, books .stands, books .driven, books .cranes, books .calls)
       (same-tests _ _ _ _ refl (λ h.
-      same-tests _ _ _ _ (same-triangles n t s tables) (λ w.
+      same-tests _ _ _ _ refl (λ w.
       same-tests _ _ _ _ (ap (λ r. unless r 9) (same-plan (b .cranes) (stopsOf b) _ _ (books .plan))) (λ p.
       same-tests _ _ _ _ (same-weights (b .cranes) (stopsOf b) (a .plan) (a .weights) _ _ (b .plan) (b .weights) (unless-zero _ 8 p) (books .plan) (books .weights)
       (λ q f l m. same-costs (day .counts .place) (startsOf b) (requestsOf b) (standsOf b)
-      (rw (books .starts) at (day .starts)) (rw (books .requests) at (day .requests)) (unless-zero _ 4 h) (metresOf t) (metresOf s) tables q f)) (λ w. refl))))))
+      (rw (books .starts) at (day .starts)) (rw (books .requests) at (day .requests)) (unless-zero _ 4 h) (metresOf t) (metresOf t) (λ u v k l. refl) q f)) (λ w. refl))))))
 
 -- ---- a day
 
-module _ (a b : Day) (t s : Table) (days : SameDay a b) (tables : (u v : ℕ) → u < b .places → v < b .places → metresOf t u v ≡ metresOf s u v) where
+module _ (a b : Day) (t : Table) (days : SameDay a b) where
   same-fresh : freshBook (a .cranes) (a .starts) ≡ freshBook (b .cranes) (b .starts)
   unfolding freshBook
   same-fresh =
@@ -75,6 +73,6 @@ module _ (a b : Day) (t s : Table) (days : SameDay a b) (tables : (u v : ℕ) �
       }
 
   -- the fresh book
-  pub same-opened : freshOf a t ≡ freshOf b s
+  pub same-opened : freshOf a t ≡ freshOf b t
   unfolding freshOf
-  same-opened = rw (same-refusal a b t s days tables, same-fresh)
+  same-opened = rw (same-refusal a b t days, same-fresh)

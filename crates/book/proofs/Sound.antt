@@ -58,7 +58,7 @@ placed n l rule m = let at = slot-of m in rw (← at .2) (stop-below n l rule (a
 
 -- "In memory: 3, 6, 7, 4, 5 (starts, calls, stands), 8, 9, 10", then 13, one by one
 pub book-order : (book : Book) (n : ℕ) (t : Table) → bookRefusal book n t
-    ≡ (countsRefusal n (book .cranes) (book .calls) then legsRefusal n t then stopsRefusal n (startsOf book) then
+    ≡ (countsRefusal n (length t) (book .cranes) (book .calls) then legsRefusal t then stopsRefusal n (startsOf book) then
     stopsRefusal n (requestsOf book) then stopsRefusal n (standsOf book) then triangleRefusal n t then
     planRefusal (book .cranes) (stopsOf book) (book .plan) then
     weightsRefusal (book .cranes) (stopsOf book) (book .plan) (book .weights)
@@ -68,7 +68,7 @@ book-order book n t = placed-before (bookDay book n) t _
 
 -- "A book is sound if none of 3 to 10 .. applies to it and its table", nor 13: by its rules
 pub record Sound (book : Book) (n : ℕ) (t : Table) : Type 0 where
-  pub counts : CountsTested n (book .cranes) (book .calls)
+  pub counts : CountsTested n (length t) (book .cranes) (book .calls)
   pub surveyed : Surveyed n t
   pub starts : stopsRule n (startsOf book) ≡ true
   pub requests : stopsRule n (requestsOf book) ≡ true

@@ -24,7 +24,7 @@ unfolding freshOf
 opened day t book e q = rw (e, q)
 
 -- what the test of the day tells once it accepted
-tested : (c : tie.After-enum-told) → let a = c .before .before .before .args in dayRefusal (a .day) (a .table) ≡ 0
+tested : (c : tie.After-enum-told) → let a = c .before .before .before .before .args in dayRefusal (a .day) (a .table .now) ≡ 0
 tested c = accepts _ _ (c .enum-told .given .1) (c .before .before .test .ensures)
 
 test-requires : tie.Need-test-requires

@@ -12,7 +12,7 @@ use Rattle.base.proofs.Numbers.{accepts, holds, unless-zero, asked-again, goes-
 use Rattle.road.specs.Table.{Table, mostPlaces, metresOf, entry, triangleRefusal}
 use Rattle.road.proofs.Table.{entry-in}
 use Rattle.dayfile.specs.Day.{stopsRule, stopsRefusal, placedRefusal}
-use Rattle.dayfile.proofs.Limits.{Placed, day-placed, places-accepted}
+use Rattle.dayfile.proofs.Limits.{Placed, day-placed, run-tested}
 use Rattle.workfunction.specs.Plan.{planRule, legCost}
 use Rattle.workfunction.proofs.Plan.{plan-facts}
 use Rattle.book.specs.declared.Book.{Book}
@@ -38,7 +38,7 @@ by-reading book n t day stands planned =
 
 -- the places of the code from which the others are looked back upon
 abbrev start : tie.After-enum-told → tie.Start
-start c = c .before .before .before .before .before .before .before .before .before
+start c = c .before .before .before .before .before .before .before .before .before .before
 
 abbrev first : tie.After-enum-told3 → tie.After-enum-told
 first c = c .before .before .before .before
@@ -50,7 +50,7 @@ abbrev third : tie.After-enum-told7 → tie.After-enum-told5
 third c = c .before .before .before .before
 
 abbrev fourth : tie.After-test2 → tie.After-enum-told7
-fourth c = c .before .before .before .before .before .before .before
+fourth c = c .before .before .before .before .before .before
 
 plan-long : (s : tie.Start) → length (s .args .self .plan) ≡ mostStops
 plan-long s = search needs
@@ -59,7 +59,7 @@ weights-long : (s : tie.Start) → length (s .args .self .weights) ≡ mostStops
 weights-long s = search needs
 
 -- what the tests that accepted tell
-day : (c : tie.After-enum-told) → let a = start c .args in Placed (bookDay (a .self) (a .places)) (a .t3)
+day : (c : tie.After-enum-told) → let a = start c .args in Placed (bookDay (a .self) (a .places)) (a .table .now)
 day c = day-placed _ _ (accepts _ _ (c .enum-told .given .1) (c .before .before .test-placed .ensures))
 
 fits : (c : tie.After-enum-told) → Fits (start c .args .self)
@@ -84,19 +84,19 @@ abbrev fromTriangles : Book → ℕ → Table → ℕ → ℕ
 fromTriangles book n t r = fromStands book n t (triangleRefusal n t then r)
 
 -- where the tests so far accepted, the next decides
-placed : (c : tie.After-enum-told) (r n : ℕ) → n ≡ r → let a = start c .args in n ≡ fromPlaced (a .self) (a .places) (a .t3) r
+placed : (c : tie.After-enum-told) (r n : ℕ) → n ≡ r → let a = start c .args in n ≡ fromPlaced (a .self) (a .places) (a .table .now) r
 placed c r n q = goes-on _ _ r n (c .enum-told .given .1) (c .before .before .test-placed .ensures) q
 
-stands : (c : tie.After-enum-told3) (r n : ℕ) → n ≡ r → let a = start (first c) .args in n ≡ fromStands (a .self) (a .places) (a .t3) r
+stands : (c : tie.After-enum-told3) (r n : ℕ) → n ≡ r → let a = start (first c) .args in n ≡ fromStands (a .self) (a .places) (a .table .now) r
 stands c r n q = placed (first c) _ n (goes-on _ _ r n (c .enum-told3 .given .1) (c .before .before .test-stops .ensures) q)
 
 -- the triangle rule, the places being accepted
 ways : (c : tie.After-test-triangles)
-    → let f = first (c .before) in let a = start f .args in numberOf (c .test-triangles .result) ≡ triangleRefusal (a .places) (a .t3)
-ways c = asked-again _ _ _ (places-accepted _ _ _ (day (first (c .before)) .counts)) (c .test-triangles .ensures)
+    → let f = first (c .before) in let a = start f .args in numberOf (c .test-triangles .result) ≡ triangleRefusal (a .places) (a .table .now)
+ways c = asked-again _ _ _ (run-tested _ _ _ _ (day (first (c .before)) .counts)) (c .test-triangles .ensures)
 
 triangles : (c : tie.After-enum-told5) (r n : ℕ) → n ≡ r
-    → let a = start (first (second c)) .args in n ≡ fromTriangles (a .self) (a .places) (a .t3) r
+    → let a = start (first (second c)) .args in n ≡ fromTriangles (a .self) (a .places) (a .table .now) r
 triangles c r n q = stands (second c) _ n (goes-on _ _ r n (c .enum-told5 .given .1) (ways (c .before .before)) q)
 
 test-placed-requires : tie.Need-test-placed-requires
@@ -174,32 +174,32 @@ returns-4 c =
     triangles (c .before .before .before .before) _ _ (handed-up _ (e .0 .0) (e .1) _ _ (c .before .before .test .ensures))
 
 array-share-prefix-starts : tie.Need-array-share-prefix-starts
-array-share-prefix-starts c = fits (first (second (third (c .before)))) .starts
+array-share-prefix-starts c = fits (first (second (third c))) .starts
 
 slice-aggregate-test-2 : tie.Need-slice-aggregate-test-2
-slice-aggregate-test-2 c = sym (starts-long (fits (first (second (third (c .before .before))))))
+slice-aggregate-test-2 c = sym (starts-long (fits (first (second (third (c .before))))))
 
 array-share-prefix-requests : tie.Need-array-share-prefix-requests
-array-share-prefix-requests c = fits (first (second (third (c .before .before)))) .requests
+array-share-prefix-requests c = fits (first (second (third (c .before)))) .requests
 
 slice-aggregate-test-3 : tie.Need-slice-aggregate-test-3
-slice-aggregate-test-3 c = sym (requests-long (fits (first (second (third (c .before .before .before))))))
+slice-aggregate-test-3 c = sym (requests-long (fits (first (second (third (c .before .before))))))
 
 array-share-prefix-stands-2 : tie.Need-array-share-prefix-stands-2
-array-share-prefix-stands-2 c = fits (first (second (third (c .before .before .before)))) .stands
+array-share-prefix-stands-2 c = fits (first (second (third (c .before .before)))) .stands
 
 slice-aggregate-test-4 : tie.Need-slice-aggregate-test-4
-slice-aggregate-test-4 c = sym (stands-long (fits (first (second (third (c .before .before .before .before))))))
+slice-aggregate-test-4 c = sym (stands-long (fits (first (second (third (c .before .before .before))))))
 
 slice-aggregate-test-5 : tie.Need-slice-aggregate-test-5
-slice-aggregate-test-5 c = sym (plan-long (start (first (second (third (c .before .before .before .before .before))))))
+slice-aggregate-test-5 c = sym (plan-long (start (first (second (third (c .before .before .before .before))))))
 
 slice-aggregate-test-6 : tie.Need-slice-aggregate-test-6
-slice-aggregate-test-6 c = sym (weights-long (start (first (second (third (c .before .before .before .before .before .before))))))
+slice-aggregate-test-6 c = sym (weights-long (start (first (second (third (c .before .before .before .before .before))))))
 
 test-requires-2 : tie.Need-test-requires-2
 test-requires-2 c κs =
-    let p = c .before .before .before .before .before .before in
+    let p = c .before .before .before .before .before in
     let f = first (second (third p)) in
     record {
       most = omega (arith, day f .counts);
@@ -235,7 +235,7 @@ returns-5 c =
     let f = first (second t) in
     let a = start f .args in
     let weights =
-    rw (starts-long (fits f)) at (w .test2 .ensures) ∙ by-reading (a .self) _ (a .t3) (day f) (stand (second t)) (plan p)
+    rw (starts-long (fits f)) at (w .test2 .ensures) ∙ by-reading (a .self) _ (a .table .now) (day f) (stand (second t)) (plan p)
     in
     triangles t _ _
     (goes-on _ _ _ _ (p .enum-told7 .given .1) (p .before .before .test .ensures)

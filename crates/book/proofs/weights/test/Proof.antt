@@ -23,7 +23,7 @@ vouches s =
 
 -- where the function begins
 abbrev start : tie.After-test-range → tie.Start
-start r = r .before .before .before .before .before
+start r = r .before .before .before .before .before .before
 
 test-range-requires : tie.Need-test-range-requires
 test-range-requires c κs = search needs

@@ -31,7 +31,7 @@ abbrev μ-loop : tie.MeasureT-loop
 
 -- where the function begins, from the place of the loop
 abbrev start : tie.At-loop Inv-loop μ-loop → tie.Start Inv-loop μ-loop
-start l = l .before .before .before .before .before .before .before
+start l = l .before .before .before .before .before .before .before .before
 
 -- the follower of p is in range
 kept-below : (s : tie.Start Inv-loop μ-loop) → follower (s .args .plan .now) (s .args .p) < s .args .stops
@@ -61,7 +61,7 @@ shared-slice-read-kept : tie.Need-shared-slice-read-kept Inv-loop μ-loop
 shared-slice-read-kept c = search needs
 
 cast-kept : tie.Need-cast-kept Inv-loop μ-loop
-cast-kept c = omega (arith, c .shared-slice-known5 .given (c .before .before .before .before .before .args .p))
+cast-kept c = omega (arith, c .shared-slice-known6 .given (c .before .before .before .before .before .before .args .p))
 
 leg-requires : tie.Need-leg-requires Inv-loop μ-loop
 leg-requires c κs = search needs
