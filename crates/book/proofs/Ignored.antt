@@ -9,16 +9,14 @@ use Rattle.base.specs.Numbers.{unless, _then_}
 use Rattle.base.proofs.Lists.{kept-same}
 use Rattle.base.proofs.Numbers.{unless-zero}
 use Rattle.base.proofs.Tests.{below-same}
-use Rattle.road.specs.Table.{Table, metresOf}
+use Rattle.road.specs.Table.{Table, triangleRefusal}
 use Rattle.dayfile.specs.declared.Day.{Day}
-use Rattle.dayfile.specs.Day.{mostCranes, mostCalls, SameDay}
+use Rattle.dayfile.specs.Day.{mostCranes, mostCalls, stopsRefusal, SameDay}
 use Rattle.dayfile.proofs.Ignored.{same-placed, same-refusal}
-use Rattle.dayfile.proofs.Limits.{day-placed}
 use Rattle.workfunction.specs.Plan.{follows, followersRule, onceRule, planRule}
 use Rattle.workfunction.proofs.Sums.{sum-same}
 use Rattle.book.specs.declared.Book.{Book}
-use Rattle.book.specs.Book.{mostStops, startsOf, standsOf, requestsOf, stopsOf, SameBook, bookDay, bookRefusal, freshBook, freshOf}
-use Rattle.book.proofs.Places.{same-costs}
+use Rattle.book.specs.Book.{mostStops, standsOf, stopsOf, SameBook, bookDay, bookRefusal, freshBook, freshOf}
 use Rattle.book.proofs.Vouching.{same-weights}
 
 -- two tests in order, the second of which is asked only where the first accepts
@@ -45,14 +43,12 @@ module _ (a b : Book) (n : ℕ) (t : Table) (books : SameBook a b) where
   unfolding bookRefusal
   past-counts-ignored =
       same-tests _ _ _ _ (same-placed (bookDay a n) (bookDay b n) t days) (λ c.
-      let day = day-placed (bookDay a n) t c in
       rw (books .starts, books .requests, books .stands, books .driven, books .cranes, books .calls)
-      (same-tests _ _ _ _ refl (λ h.
-      same-tests _ _ _ _ refl (λ w.
+      (same-tests (stopsRefusal n (standsOf b)) _ _ _ refl (λ h.
+      same-tests (triangleRefusal n t) _ _ _ refl (λ w.
       same-tests _ _ _ _ (ap (λ r. unless r 9) (same-plan (b .cranes) (stopsOf b) _ _ (books .plan))) (λ p.
       same-tests _ _ _ _ (same-weights (b .cranes) (stopsOf b) (a .plan) (a .weights) _ _ (b .plan) (b .weights) (unless-zero _ 8 p) (books .plan) (books .weights)
-      (λ q f l m. same-costs (day .counts .place) (startsOf b) (requestsOf b) (standsOf b)
-      (rw (books .starts) at (day .starts)) (rw (books .requests) at (day .requests)) (unless-zero _ 4 h) (metresOf t) (metresOf t) (λ u v k l. refl) q f)) (λ w. refl))))))
+      (λ q f l m. refl)) (λ v. refl))))))
 
 -- ---- a day
 

@@ -3,32 +3,32 @@
 use Prim.Native.Nat.{ℕ, _+_, _*_, _<_, _≤_}
 use mathlib.Core.Bool.{true}
 use mathlib.Core.List.{List, [], _∷_, _++_}
-use mathlib.Core.Path.{_≡_, refl, sym, ap, _∙_}
+use mathlib.Core.Path.{_≡_, refl, ap, _∙_}
 use lib.IntN.{ℤ, pos}
 use lib.ListN.{length, getD, set, length-set, length-append}
 use lib.Seq.{getD-set-same, getD-set-other}
-use native.Mathlib.Decide.{ℕ-discrete}
-use native.Mathlib.Nat.{le-refl, le-of-lt}
+use native.Mathlib.Nat.{le-of-lt}
 use native.Mathlib.Omega.{arith}
 use Rattle.road.specs.Table.{mostMetres}
 use Rattle.dayfile.specs.Day.{mostCalls}
 use Rattle.workfunction.specs.Choice.{moved, drive}
 use Rattle.workfunction.specs.Movement.{Instance, work}
-use Rattle.workfunction.specs.Plan.{planRule, vouchRule, planCost, stops, place, legCost}
+use Rattle.workfunction.specs.Plan.{planRule, vouchRule, planCost, stops, legCost}
 use Rattle.workfunction.specs.Position.{Position}
 use Rattle.workfunction.specs.Serving.{servedBy}
 use Rattle.workfunction.proofs.Movement.{instance-then}
 use Rattle.workfunction.proofs.Plan.{Plan, plan-facts}
 use Rattle.workfunction.proofs.Position.{position-set}
-use Rattle.workfunction.proofs.Stops.{stop-placed, follower-placed, stops-more, place-last, place-early, place-crane, place-others}
+use Rattle.workfunction.proofs.Stops.{stop-placed, follower-placed, stops-more, place-early}
 use Rattle.workfunction.proofs.Sums.{sum-same, sum-most, entry-in}
 use Rattle.workfunction.proofs.Witness.{witness-work}
 use Rattle.book.specs.Book.{mostStops, follower, weight, rangeRule}
 use Rattle.dispatch.specs.declared.insert.Pick.{Pick}
 use Rattle.dispatch.specs.Insertion.{leastEnd, picked, Found, Inserted, Unmoved, Roads, Kept, Answered, Netted}
-use Rattle.dispatch.specs.Legs.{legAt, LegTable, RowCopied}
+use Rattle.dispatch.specs.Legs.{legAt, LegTable, FollowerPut, CallAdded}
 use Rattle.dispatch.specs.Search.{Witnessed}
 use Rattle.dispatch.proofs.Insertion.{inserted-plan, inserted-range, range-moved, netted-choice, found-netted, inserted-served}
+use Rattle.dispatch.proofs.LegTable.{table-leg, table-grown, table-moved}
 use Rattle.dispatch.proofs.insert.Laws.{taken-self, taken-plan}
 use Rattle.book.proofs.Vouching.{vouch-over-legs}
 
@@ -40,23 +40,13 @@ kept-few kept room = let cranes = kept .asked .cranes in omega arith
 module _ {n : ℕ} {d read : ℕ → ℕ → ℕ} (roads : Roads n d read) where
   module _ {starts calls stands : List ℕ} (day : Instance n starts calls) (standing : Position n (length starts) stands) (p b : ℕ)
       (h : p < stops starts calls) (l : b < stops starts calls) where
-    -- a leg is read off the table as it is, and is within the limit
-    leg-read : legCost read starts calls stands p b ≡ legCost d starts calls stands p b
-    unfolding legCost
-    leg-read = roads .reads _ _ (stop-placed day p h) (follower-placed day standing b l)
-
+    -- a leg is within the limit
     leg-short : legCost d starts calls stands p b ≤ mostMetres
     unfolding legCost
     leg-short = roads .short _ _ (stop-placed day p h) (follower-placed day standing b l)
 
   module _ {starts calls stands plan : List ℕ} {weights : List ℤ} {costs : List ℕ}
       (kept : Kept n d starts calls stands plan weights costs) where
-    -- the table as it is read off
-    pub kept-read : LegTable read starts calls stands costs
-    kept-read = record {
-      leg = λ p b h l. kept .table .leg p b h l ∙ sym (leg-read (kept .asked .day) (kept .standing) p b h l);
-    }
-
     -- the kept plan costs w of the stands
     kept-work : planCost (stops starts calls) (legCost d starts calls stands) (follower plan) ≡ work d n starts calls stands
     kept-work =
@@ -67,15 +57,18 @@ module _ {n : ℕ} {d read : ℕ → ℕ → ℕ} (roads : Roads n d read) where
     kept-below = plan-facts (length starts) (stops starts calls) (follower plan) (kept .certified .planned) .below
 
     module _ (room : length calls < mostCalls) {r : ℕ} (asked : r < n) {longer : List ℕ}
-        (extended : LegTable read starts (calls ++ (r ∷ [])) stands longer) where
-      -- the table with the call's row and column
+        (added : CallAdded read (stops starts calls) r costs longer) where
+      -- the table with the call
+      longer-table : LegTable n d starts (calls ++ (r ∷ [])) stands longer
+      longer-table = table-grown (kept .table) (roads .few) (kept .standing .cranes) (λ x l. roads .reads r x asked l) added
+
       leg-longer : (p b : ℕ) → p ≤ stops starts calls → b ≤ stops starts calls
           → legAt longer p b ≡ legCost d starts (calls ++ (r ∷ [])) stands p b
       leg-longer p b h l =
           let one = stops-more starts calls r in
           let lt : p < stops starts (calls ++ (r ∷ [])) = omega arith in
           let less : b < stops starts (calls ++ (r ∷ [])) = omega arith in
-          extended .leg p b lt less ∙ leg-read (instance-then (kept .asked .day) asked) (kept .standing) p b lt less
+          table-leg longer-table p b lt less (follower-placed (instance-then (kept .asked .day) asked) (kept .standing) b less)
 
       longer-short : (p b : ℕ) → p ≤ stops starts calls → b ≤ stops starts calls → legAt longer p b ≤ mostMetres
       longer-short p b h l =
@@ -149,29 +142,28 @@ module _ {n : ℕ} {d read : ℕ → ℕ → ℕ} (roads : Roads n d read) where
       module _ (plan' : List ℕ) (weights' : List ℤ) (left : List ℕ) {s : ℕ} {old : ℕ → ℤ}
           (taken : Inserted (length starts) (stops starts calls) (follower (set plan (stops starts calls) (stops starts calls))) (legAt longer) s
           (follower plan') old (weight weights'))
-          (row : RowCopied (stops starts calls + 1) (stops starts calls) s longer left) where
+          (put : FollowerPut s r longer left) where
         crane : s < length stands
         crane = rw (kept .standing .cranes) (taken .end)
 
+        standing : Position n (length starts) (moved stands r s)
+        standing = position-set stands s r asked (kept .standing)
+
         -- the table with crane s at the call
+        left-table : LegTable n d starts (calls ++ (r ∷ [])) (moved stands r s) left
+        left-table =
+            let one = stops-more starts calls r in
+            let few = kept-few kept room in
+            table-moved longer-table (roads .few) (omega arith) crane put
+
         leg-left : (p b : ℕ) → p < stops starts calls + 1 → b < stops starts calls + 1
             → legAt left p b ≡ legCost d starts (calls ++ (r ∷ [])) (moved stands r s) p b
-        unfolding legCost
-        leg-left p b h l = pick (ℕ-discrete b s)
-          where
-            last : place stands (calls ++ (r ∷ [])) (stops starts calls) ≡ r
-            last = rw (← kept .standing .cranes) (place-last stands calls r)
+        leg-left p b h l =
+            let one = stops-more starts calls r in
+            let less : b < stops starts (calls ++ (r ∷ [])) = omega arith in
+            table-leg left-table p b (omega arith) less (follower-placed (instance-then (kept .asked .day) asked) standing b less)
 
-            pick : Dec (b ≡ s) → legAt left p b ≡ d (place starts (calls ++ (r ∷ [])) p) (place (moved stands r s) (calls ++ (r ∷ [])) b)
-            pick (yes e) =
-                rw e (row .copied p h ∙ leg-longer p (stops starts calls) (omega arith) (le-refl _)
-                ∙ ap (d (place starts (calls ++ (r ∷ [])) p)) (last ∙ sym (place-crane stands (calls ++ (r ∷ [])) r s crane)))
-            pick (no away) =
-                let few = kept-few kept room in
-                row .rest p b (omega arith) away ∙ leg-longer p b (omega arith) (omega arith)
-                ∙ ap (d (place starts (calls ++ (r ∷ [])) p)) (sym (place-others stands (calls ++ (r ∷ [])) r s b crane away))
-
-        module _ (planLong : mostStops ≤ length plan') (weightsLong : mostStops ≤ length weights') (costsLong : mostStops * mostStops ≤ length left) where
+        module _ (planLong : mostStops ≤ length plan') (weightsLong : mostStops ≤ length weights') where
           -- the weight of crane s is 0, the others are the new ones
           crane-weight : weight (set weights' s (pos 0)) s ≡ pos 0
           crane-weight =
@@ -200,12 +192,11 @@ module _ {n : ℕ} {d read : ℕ → ℕ → ℕ} (roads : Roads n d read) where
               let more = length-append calls (r ∷ []) in
               record {
                 asked = record { day = instance-then (kept .asked .day) asked; cranes = kept .asked .cranes; few = omega arith };
-                standing = position-set stands s r asked (kept .standing);
+                standing = standing;
                 certified = record { planned = rw one at (served-plan taken); ranged = rw one at served-range; vouched = rw one at served-vouched };
-                table = record { leg = λ p b h l. leg-left p b (rw one h) (rw one l) };
+                table = left-table;
                 planLong = planLong;
                 weightsLong = rw length-set weightsLong;
-                costsLong = costsLong;
               }
 
           -- the plan costs w of the stands

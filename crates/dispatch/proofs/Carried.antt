@@ -9,14 +9,16 @@ use lib.IntN.{ℤ, pos}
 use lib.ListN.{length, getD, set, drop}
 use lib.Seq.{getD-take}
 use native.Mathlib.Decide.{decLt}
+use native.Mathlib.Nat.{le-trans}
 use native.Mathlib.Omega.{arith}
 use Rattle.base.proofs.Tests.{below-all}
-use Rattle.road.specs.Table.{Table, mostMetres, metresOf, entry}
+use Rattle.road.specs.Table.{Table, mostPlaces, mostMetres, metresOf, entry}
 use Rattle.road.proofs.Surveyed.{Surveyed}
 use Rattle.dayfile.specs.Day.{mostCalls, stopsRule}
 use Rattle.dayfile.proofs.Limits.{CountsTested, stop-below}
 use Rattle.workfunction.specs.Choice.{moved, drive}
 use Rattle.workfunction.specs.Serving.{Served, servedBy}
+use Rattle.workfunction.proofs.Stops.{stop-placed}
 use Rattle.workfunction.proofs.Sums.{entry-in}
 use Rattle.book.specs.declared.Book.{Book}
 use Rattle.book.specs.Book.{mostStops, startsOf, standsOf, requestsOf, drivenOf, stopsOf, follower, weight, drivenRule, BookArrays, SameBook, bookRefusal}
@@ -24,31 +26,42 @@ use Rattle.dispatch.specs.declared.insert.Pick.{Pick}
 use Rattle.dispatch.specs.declared.insert.Pick.the-variants.{End}
 use Rattle.dispatch.specs.Commit.{tidied, bookAfter, driveOf, leastAfter, Committed, Next}
 use Rattle.dispatch.specs.Insertion.{Kept, Answered, Unmoved}
-use Rattle.dispatch.specs.Legs.{LegTable}
+use Rattle.dispatch.specs.Legs.{Costed, LegTable, BookGiven}
 use Rattle.book.proofs.Metres.{driven-at, driven-more}
-use Rattle.book.proofs.Places.{same-costs}
 use Rattle.book.proofs.Sound.{Fits, starts-long, stands-long, requests-long, driven-long, stops-long, Sound, sound-book, sound-fits, sound-standing}
+use Rattle.dispatch.proofs.LegTable.{table-over}
 use Rattle.dispatch.proofs.Added.{stands-split, after-added, after-fits}
 use Rattle.dispatch.proofs.Roads.{sound-roads, sound-asked}
 
 module _ {book : Book} {n : ℕ} {t : Table} (arrays : BookArrays book) (s : Sound book n t) where
+  -- its table can be filled
+  pub sound-given : {costs : List ℕ} → Costed costs → BookGiven book costs
+  sound-given costed = record {
+    cranes = s .counts .cranes;
+    calls = s .counts .calls;
+    stood = λ i h. le-trans (stop-below n (standsOf book) (s .stands) i h) (s .counts .places);
+    called = λ i h. le-trans (stop-below n (requestsOf book) (s .requests) i h) (s .counts .places);
+    costed = costed;
+  }
+
+  -- and what is read off its roads are its metres
+  pub sound-table : {costs : List ℕ} → LegTable mostPlaces (entry (metresOf t)) (startsOf book) (requestsOf book) (standsOf book) costs
+      → LegTable n (metresOf t) (startsOf book) (requestsOf book) (standsOf book) costs
+  sound-table table =
+      table-over table (s .counts .places) (λ p x h l. sound-roads s .reads _ x (stop-placed (sound-asked arrays s .day) p h) l)
+
   -- a sound book with the table of what is read off its roads
-  pub sound-kept : {costs : List ℕ} → mostStops ≤ length (book .plan) → mostStops ≤ length (book .weights) → mostStops * mostStops ≤ length costs
-      → LegTable (entry (metresOf t)) (startsOf book) (requestsOf book) (standsOf book) costs
+  pub sound-kept : {costs : List ℕ} → mostStops ≤ length (book .plan) → mostStops ≤ length (book .weights)
+      → LegTable mostPlaces (entry (metresOf t)) (startsOf book) (requestsOf book) (standsOf book) costs
       → Kept n (metresOf t) (startsOf book) (requestsOf book) (standsOf book) (book .plan) (book .weights) costs
-  sound-kept plan weights costs table = record {
+  sound-kept plan weights table = record {
     asked = sound-asked arrays s;
     standing = sound-standing arrays s;
     certified =
         rw (starts-long (sound-fits arrays s), requests-long (sound-fits arrays s)) (record { planned = s .plan; ranged = s .range; vouched = s .vouched });
-    table = record {
-      leg = λ p b h l. table .leg p b h l
-          ∙ same-costs (s .counts .place) _ _ _ (s .starts) (s .requests) (s .stands) (entry (metresOf t)) (metresOf t)
-          (sound-roads s .reads) p b;
-    };
+    table = sound-table table;
     planLong = plan;
     weightsLong = weights;
-    costsLong = costs;
   }
 
 -- places of the table keep their rule

@@ -1,6 +1,6 @@
 -- A day served call by call: what holds after each call, what the calls give together, and the fresh book with which it begins.
 -- Assumes nothing.
-use Prim.Native.Nat.{ℕ, _+_, _*_, _<_, _≤_}
+use Prim.Native.Nat.{ℕ, _+_, _<_, _≤_}
 use mathlib.Core.List.{List, [], _∷_, _++_}
 use mathlib.Core.Path.{_≡_, refl, sym, ap, _∙_}
 use lib.IntN.{ℤ, pos}
@@ -10,7 +10,7 @@ use native.Mathlib.Nat.{add-zero, le-antisymm}
 use native.Mathlib.Numerals.{add-one}
 use native.Mathlib.Omega.{arith}
 use Rattle.base.proofs.Lists.{length-padded, take-kept, drop-replicate, Filled, fill-begun, fill-turned, fill-ended}
-use Rattle.road.specs.Table.{Table, metresOf, entry}
+use Rattle.road.specs.Table.{Table, mostPlaces, metresOf, entry}
 use Rattle.dayfile.specs.declared.Day.{Day}
 use Rattle.dayfile.specs.Day.{mostCranes, mostCalls, dayStarts, dayRequests, DayArrays, dayRefusal}
 use Rattle.dayfile.proofs.Limits.{Tested, day-tested, stop-below, enough-starts, enough-requests, length-requests}
@@ -171,11 +171,10 @@ module _ {day : Day} {t : Table} {book : Book} (given : FreshDay day t book) whe
   unfolding freshBook
   no-calls = rw (given .fresh)
 
-  pub day-kept : {costs : List ℕ} → mostStops * mostStops ≤ length costs
-      → LegTable (entry (metresOf t)) (startsOf book) (requestsOf book) (standsOf book) costs
+  pub day-kept : {costs : List ℕ} → LegTable mostPlaces (entry (metresOf t)) (startsOf book) (requestsOf book) (standsOf book) costs
       → Kept (day .places) (metresOf t) (startsOf book) [] (standsOf book) (book .plan) (book .weights) costs
-  day-kept long table =
-      rw no-calls at (sound-kept (given .arrays) day-sound (omega (arith, given .plan)) (omega (arith, given .weights)) long table)
+  day-kept table =
+      rw no-calls at (sound-kept (given .arrays) day-sound (omega (arith, given .plan)) (omega (arith, given .weights)) table)
 
   -- each crane stands at its start
   pub at-starts : startsOf book ≡ dayStarts day

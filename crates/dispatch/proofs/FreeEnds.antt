@@ -17,7 +17,7 @@ use Rattle.workfunction.proofs.Stops.{stop-placed}
 use Rattle.workfunction.proofs.Witness.{witness-floor}
 use Rattle.book.specs.Book.{mostStops, follower, weight}
 use Rattle.dispatch.specs.Insertion.{Roads, Asked}
-use Rattle.dispatch.specs.Legs.{legAt, Rows}
+use Rattle.dispatch.specs.Legs.{legAt, FreeTable}
 use Rattle.dispatch.specs.Search.{Certified}
 use Rattle.book.proofs.FreshBook.{fresh-plan, fresh-range, fresh-vouch}
 use Rattle.book.proofs.Vouching.{vouch-over-legs, cost-over-legs}
@@ -28,7 +28,7 @@ within-bound true h = zero-le
 within-bound false h = h
 
 module _ {n : ℕ} {d read : ℕ → ℕ → ℕ} (roads : Roads n d read) {starts calls costs : List ℕ} (asked : Asked n starts calls)
-    (table : Rows (stops starts calls) (stops starts calls) (freeCost read starts calls) costs) where
+    (table : FreeTable read starts calls costs) where
   -- over what is read off the table as over its metres
   free-leg : (p b : ℕ) → p < stops starts calls → b < stops starts calls → legAt costs p b ≡ freeCost d starts calls p b
   unfolding freeCost

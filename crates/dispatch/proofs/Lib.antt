@@ -1,3 +1,4 @@
+pub mod LegTable
 pub mod Roads
 pub mod Called
 pub mod Added

@@ -1,3 +1,2 @@
 pub mod Laws
 pub mod Heads
-pub mod Lent

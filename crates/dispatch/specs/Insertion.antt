@@ -8,7 +8,7 @@ use lib.IntN.{ℤ}
 use lib.ListN.{length, getD, set, drop}
 use Rattle.base.specs.Lists.{upTo}
 use Rattle.base.specs.Metric.{Metric}
-use Rattle.road.specs.Table.{Table, mostMetres, metresOf}
+use Rattle.road.specs.Table.{Table, mostPlaces, mostMetres, metresOf}
 use Rattle.dayfile.specs.Day.{mostCranes, mostCalls}
 use Rattle.workfunction.specs.Choice.{preferred, moved, drive, choice}
 use Rattle.workfunction.specs.Lists.{sumBelow}
@@ -21,7 +21,7 @@ use Rattle.book.specs.declared.Book.{Book}
 use Rattle.book.specs.Book.{mostStops, startsOf, standsOf, requestsOf, stopsOf, follower, weight}
 use Rattle.dispatch.specs.declared.insert.Pick.{Pick}
 use Rattle.dispatch.specs.declared.insert.Pick.the-variants.{Least, End}
-use Rattle.dispatch.specs.Legs.{legAt, LegTable}
+use Rattle.dispatch.specs.Legs.{legAt, Costed, LegTable}
 use Rattle.dispatch.specs.Search.{at, netBase, netOf, Sized, Certified, Witnessed, Totalled, Searched, Reweighed}
 use Rattle.dispatch.specs.Quote.{quoteRefusal}
 use Rattle.dispatch.specs.ServedDay.{nth}
@@ -40,7 +40,7 @@ pub record NetsGiven (k N : ℕ) (plan costs totals nets before : List ℕ) : Ty
   pub freed : k ≤ length before
   pub planLong : N < length plan
   pub totalsLong : N < length totals
-  pub costed : mostStops * mostStops ≤ length costs
+  pub costed : Costed costs
   pub planned : planRule k N (follower plan) ≡ true
   pub totalled : Totalled N (follower plan) (legAt costs) (at totals)
 
@@ -50,7 +50,7 @@ pub record ChoiceGiven (k N : ℕ) (nets costs : List ℕ) : Type 0 where
   pub cranes : k ≤ mostCranes
   pub few : N < mostStops
   pub netted : k ≤ length nets
-  pub costed : mostStops * mostStops ≤ length costs
+  pub costed : Costed costs
   pub low : (e : ℕ) → e < k → at nets e ≤ netBase + mostMetres
 
 -- of the ends below k the one of the least net cost and way from N together; among equals of the least way; then of the lowest
@@ -101,7 +101,7 @@ pub record InsertGiven (k N : ℕ) (pick : Pick) (plan : List ℕ) (weights : Li
   pub ends : (e : ℕ) → e < k → picked pick e < k
   pub planLong : mostStops ≤ length plan
   pub weightsLong : mostStops ≤ length weights
-  pub costsLong : mostStops * mostStops ≤ length costs
+  pub costed : Costed costs
   pub witnessed : Witnessed k N plan weights costs
 
 -- the call is taken in for the end s, the one that is picked; entries past N are as they were
@@ -118,12 +118,13 @@ pub record AllGiven (k n : ℕ) (plan : List ℕ) (weights : List ℤ) (costs : 
   pub few : n ≤ mostStops
   pub planLong : mostStops ≤ length plan
   pub weightsLong : mostStops ≤ length weights
-  pub costsLong : mostStops * mostStops ≤ length costs
+  pub costed : Costed costs
   pub short : (p b : ℕ) → p < n → b < n → legAt costs p b ≤ mostMetres
   pub certified : Certified k k plan weights (legAt costs)
 
 -- metres d between n places, and what is read off their table
 pub record Roads (n : ℕ) (d read : ℕ → ℕ → ℕ) : Type 0 where
+  pub few : n ≤ mostPlaces
   pub laws : Metric n d
   pub short : (u v : ℕ) → u < n → v < n → d u v ≤ mostMetres
   pub reads : (u v : ℕ) → u < n → v < n → read u v ≡ d u v
@@ -146,10 +147,9 @@ pub record Kept (n : ℕ) (d : ℕ → ℕ → ℕ) (starts calls stands plan : 
   pub asked : Asked n starts calls
   pub standing : Position n (length starts) stands
   pub certified : Certified (length starts) (stops starts calls) plan weights (legCost d starts calls stands)
-  pub table : LegTable d starts calls stands costs
+  pub table : LegTable n d starts calls stands costs
   pub planLong : mostStops ≤ length plan
   pub weightsLong : mostStops ≤ length weights
-  pub costsLong : mostStops * mostStops ≤ length costs
 
 -- a call at r served by a crane of the stands: the figures, and the day that is under way after it
 pub record Answered (n : ℕ) (d : ℕ → ℕ → ℕ) (starts calls stands : List ℕ) (r : ℕ) (pick : Pick) (told : Served) (stands' plan' : List ℕ)
@@ -189,7 +189,7 @@ pub record QuoteGiven (book : Book) (t : Table) (r : ℕ) (nets costs : List ℕ
   pub places : ℕ
   pub accepted : quoteRefusal book places t r ≡ 0
   pub netted : mostCranes ≤ length nets
-  pub costed : mostStops * mostStops ≤ length costs
+  pub costed : Costed costs
 
 -- the net costs of a book's cranes, and the legs with the call, by which the kept plan costs what it does without it
 pub record BookNetted (book : Book) (n : ℕ) (t : Table) (r : ℕ) (nets costs : List ℕ) : Type 0 where
@@ -197,6 +197,7 @@ pub record BookNetted (book : Book) (n : ℕ) (t : Table) (r : ℕ) (nets costs 
   pub present : planCost (stopsOf book) (legAt costs) (follower (book .plan)) ≡ work (metresOf t) n (startsOf book) (requestsOf book) (standsOf book)
   pub most : planCost (stopsOf book) (legAt costs) (follower (book .plan)) ≤ mostStops * mostMetres
   pub low : (e : ℕ) → e < book .cranes → at nets e ≤ netBase + mostMetres
+  pub costed : Costed costs
 
 -- what the signed net costs are made of, and room for them
 pub record LowerGiven (k : ℕ) (nets : List ℕ) (list : List ℤ) : Type 0 where

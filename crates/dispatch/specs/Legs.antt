@@ -1,59 +1,118 @@
--- The leg costs of a book as one table of numbers: no public contract cites these. A record whose name ends in `Given` is what a
--- function is given.
+-- The leg costs of a book as one table of numbers: no public contract cites these. Its rows are as long as the most stops, with a
+-- column for each stop. Row 0 is for free ends and holds zeros, row x + 1 holds the metres to the place x, and the last row says of each
+-- follower which row is its own. A record whose name ends in `Given` is what a function is given.
 use Prim.Native.Nat.{ℕ, _+_, _*_, _<_, _≤_}
-use mathlib.Core.Bool.{cond}
 use mathlib.Core.List.{List}
 use mathlib.Core.Path.{_≡_}
-use lib.Dec.{ltb}
 use lib.ListN.{length, getD}
-use Rattle.workfunction.specs.Plan.{stops, legCost}
-use Rattle.book.specs.Book.{mostStops, follower}
+use Rattle.road.specs.Table.{mostPlaces}
+use Rattle.dayfile.specs.Day.{mostCranes, mostCalls}
+use Rattle.workfunction.specs.Plan.{stops, place, freeCost}
+use Rattle.book.specs.declared.Book.{Book}
+use Rattle.book.specs.Book.{mostStops, standsOf, requestsOf, follower}
 
--- the cost of the leg from stop p to follower b: a row of as many as the most stops for each follower, a column for each stop
+-- the number in row i, column p
+unfoldable pub cell : List ℕ → ℕ → ℕ → ℕ
+cell costs i p = getD costs (mostStops * i + p) 0
+
+-- the row of the follower b
+unfoldable pub rowOf : List ℕ → ℕ → ℕ
+rowOf costs b = cell costs (mostPlaces + 1) b
+
+-- the cost of the leg from stop p to follower b
 unfoldable pub legAt : List ℕ → ℕ → ℕ → ℕ
-legAt costs p b = getD costs (mostStops * b + p) 0
+legAt costs p b = cell costs (rowOf costs b) p
 
--- the costs of the legs from n stops to m followers
-pub record Rows (n m : ℕ) (c : ℕ → ℕ → ℕ) (costs : List ℕ) : Type 0 where
-  pub leg : (p b : ℕ) → p < n → b < m → legAt costs p b ≡ c p b
+-- all rows are there, and every follower has one of free ends or of a place
+pub record Costed (costs : List ℕ) : Type 0 where
+  pub long : mostStops * (mostPlaces + 2) ≤ length costs
+  pub rows : (b : ℕ) → b < mostStops → rowOf costs b ≤ mostPlaces
 
--- those of all legs of a book
-abbrev pub LegTable : (ℕ → ℕ → ℕ) → List ℕ → List ℕ → List ℕ → List ℕ → Type 0
-LegTable d starts calls stands = Rows (stops starts calls) (stops starts calls) (legCost d starts calls stands)
+-- nothing but zeros: every end is free
+pub record Blank (costs : List ℕ) : Type 0 where
+  pub costed : Costed costs
+  pub zero : (i : ℕ) → getD costs i 0 ≡ 0
 
--- rows below `first` as they were
-abbrev pub fromRow : ℕ → (ℕ → ℕ → ℕ) → (ℕ → ℕ → ℕ) → ℕ → ℕ → ℕ
-fromRow first old c p b = cond (ltb b first) (old p b) (c p b)
+-- a book's table, d being the metres between n places: the rows of the places, as far as the stops, and the followers' rows
+pub record LegTable (n : ℕ) (d : ℕ → ℕ → ℕ) (starts calls stands costs : List ℕ) : Type 0 where
+  pub costed : Costed costs
+  pub metres : (p x : ℕ) → p < stops starts calls → x < n → cell costs (x + 1) p ≡ d (place starts calls p) x
+  pub rows : (b : ℕ) → b < stops starts calls → rowOf costs b ≡ place stands calls b + 1
 
--- what the filling of rows is given, from one of a stand on: room for the rows of a book's followers
-pub record RowsGiven (starts calls stands : List ℕ) (from : ℕ) (costs : List ℕ) : Type 0 where
+-- the legs with free ends
+pub record FreeTable (d : ℕ → ℕ → ℕ) (starts calls costs : List ℕ) : Type 0 where
+  pub costed : Costed costs
+  pub leg : (p b : ℕ) → p < stops starts calls → b < stops starts calls → legAt costs p b ≡ freeCost d starts calls p b
+
+-- every place of a list has a row
+abbrev pub Placed : List ℕ → Type 0
+Placed places = (i : ℕ) → i < length places → getD places i 0 < mostPlaces
+
+-- the rows of the first n places are filled, as far as the stops; that of free ends and the last one are as they were
+pub record RowsFilled (n : ℕ) (read : ℕ → ℕ → ℕ) (starts calls costs costs' : List ℕ) : Type 0 where
+  pub metres : (p x : ℕ) → p < stops starts calls → x < n → cell costs' (x + 1) p ≡ read (place starts calls p) x
+  pub free : (p : ℕ) → p < mostStops → cell costs' 0 p ≡ cell costs 0 p
+  pub rows : (b : ℕ) → b < mostStops → rowOf costs' b ≡ rowOf costs b
+
+-- the follower b is put at the place r; no other number has changed
+pub record FollowerPut (b r : ℕ) (costs costs' : List ℕ) : Type 0 where
+  pub costed : Costed costs'
+  pub row : rowOf costs' b ≡ r + 1
+  pub others : (a : ℕ) → (a ≡ b → ⊥) → rowOf costs' a ≡ rowOf costs a
+  pub cells : (i p : ℕ) → i ≤ mostPlaces → p < mostStops → cell costs' i p ≡ cell costs i p
+
+-- what putting the followers from `first` on at some places is given
+pub record FollowersGiven (places : List ℕ) (first : ℕ) (costs : List ℕ) : Type 0 where
+  pub few : first + length places ≤ mostStops
+  pub placed : Placed places
+  pub costed : Costed costs
+
+-- m followers from `first` on are put at the first places of a list; those before them and all metres are as they were
+pub record FollowersPut (m first : ℕ) (places costs costs' : List ℕ) : Type 0 where
+  pub costed : Costed costs'
+  pub put : (i : ℕ) → i < m → rowOf costs' (first + i) ≡ getD places i 0 + 1
+  pub before : (b : ℕ) → b < first → rowOf costs' b ≡ rowOf costs b
+  pub cells : (i p : ℕ) → i ≤ mostPlaces → p < mostStops → cell costs' i p ≡ cell costs i p
+
+-- what the filling of a book's table is given: followers at places that have a row, and room for the stops
+pub record TableGiven (starts calls stands costs : List ℕ) : Type 0 where
   pub aligned : length stands ≡ length starts
-  pub first : from ≤ length stands
   pub few : stops starts calls ≤ mostStops
-  pub long : mostStops * mostStops ≤ length costs
+  pub stood : Placed stands
+  pub called : Placed calls
+  pub costed : Costed costs
 
--- what appending a call is given: the table without it, and room for it
-pub record CallRowGiven (read : ℕ → ℕ → ℕ) (starts calls stands costs : List ℕ) : Type 0 where
-  pub aligned : length stands ≡ length starts
-  pub few : stops starts calls < mostStops
-  pub long : mostStops * mostStops ≤ length costs
-  pub table : LegTable read starts calls stands costs
+-- what the filling of a table with free ends is given
+pub record FreeGiven (starts calls costs : List ℕ) : Type 0 where
+  pub few : stops starts calls ≤ mostStops
+  pub called : Placed calls
+  pub blank : Blank costs
 
--- what copying a row is given
-pub record CopyGiven (count from to : ℕ) (costs : List ℕ) : Type 0 where
-  pub few : count ≤ mostStops
-  pub source : from < mostStops
-  pub target : to < mostStops
-  pub long : mostStops * mostStops ≤ length costs
+-- what a book's table is made of: a book within its limits, at places that have a row
+pub record BookGiven (book : Book) (costs : List ℕ) : Type 0 where
+  pub cranes : book .cranes ≤ mostCranes
+  pub calls : book .calls ≤ mostCalls
+  pub stood : Placed (standsOf book)
+  pub called : Placed (requestsOf book)
+  pub costed : Costed costs
 
--- a row that is copied: one follower's legs from the first stops are another's, and no other leg has changed
-pub record RowCopied (count from to : ℕ) (costs costs' : List ℕ) : Type 0 where
-  pub copied : (p : ℕ) → p < count → legAt costs' p to ≡ legAt costs p from
-  pub rest : (p b : ℕ) → p < mostStops → (b ≡ to → ⊥) → legAt costs' p b ≡ legAt costs p b
+-- the column of stop N is filled by its metres to the first n places; the other columns and the last row are as they were
+pub record ColumnFilled (n : ℕ) (to : ℕ → ℕ) (N : ℕ) (costs costs' : List ℕ) : Type 0 where
+  pub column : (x : ℕ) → x < n → cell costs' (x + 1) N ≡ to x
+  pub others : (i p : ℕ) → p < mostStops → (p ≡ N → ⊥) → cell costs' i p ≡ cell costs i p
+  pub rows : (b : ℕ) → b < mostStops → rowOf costs' b ≡ rowOf costs b
+
+-- the call N at r is added, as a stop and as a follower; the stops and followers before it are as they were
+pub record CallAdded (read : ℕ → ℕ → ℕ) (N r : ℕ) (costs costs' : List ℕ) : Type 0 where
+  pub costed : Costed costs'
+  pub column : (x : ℕ) → x < mostPlaces → cell costs' (x + 1) N ≡ read r x
+  pub row : rowOf costs' N ≡ r + 1
+  pub metres : (p x : ℕ) → p < N → x < mostPlaces → cell costs' (x + 1) p ≡ cell costs (x + 1) p
+  pub rows : (b : ℕ) → b < N → rowOf costs' b ≡ rowOf costs b
 
 -- what the cost of a plan is given: followers in range, and the table of the legs
 pub record CostGiven (n : ℕ) (plan costs : List ℕ) : Type 0 where
   pub few : n ≤ mostStops
   pub planned : n ≤ length plan
-  pub long : mostStops * mostStops ≤ length costs
+  pub costed : Costed costs
   pub below : (p : ℕ) → p < n → follower plan p < n

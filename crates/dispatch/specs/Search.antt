@@ -1,7 +1,7 @@
 -- What the parts of the search for net costs do, of the flip and of the new weights: no public contract cites these. The new
 -- call has the number N; totals, parents and ranks are by stop. An open stop, one that is not settled, has the rank `mostStops`. A
 -- record whose name ends in `Given` is what a function is given.
-use Prim.Native.Nat.{ℕ, _+_, _-_, _*_, _<_, _≤_}
+use Prim.Native.Nat.{ℕ, _+_, _-_, _<_, _≤_}
 use mathlib.Core.Bool.{true, cond}
 use mathlib.Core.List.{List}
 use mathlib.Core.Logic.{_⊎_}
@@ -14,7 +14,7 @@ use Rattle.workfunction.specs.NetCost.{StopNets, Chains, Flipped}
 use Rattle.workfunction.specs.Plan.{planRule, vouchRule}
 use Rattle.book.specs.Book.{mostStops, follower, weight, rangeRule}
 use Rattle.book.specs.Weights.{Weighed}
-use Rattle.dispatch.specs.Legs.{legAt}
+use Rattle.dispatch.specs.Legs.{legAt, Costed}
 
 -- an array by its indices
 abbrev pub at : List ℕ → ℕ → ℕ
@@ -36,7 +36,7 @@ headOf y leg = natAbs (y +ℤ pos lift) - leg
 pub record HeadsGiven (N : ℕ) (plan : List ℕ) (weights : List ℤ) (costs heads : List ℕ) : Type 0 where
   pub headed : N ≤ length heads
   pub weighed : Weighed N plan weights
-  pub costed : mostStops * mostStops ≤ length costs
+  pub costed : Costed costs
   pub short : (p b : ℕ) → p < N → b < N → legAt costs p b ≤ mostMetres
 
 -- where the stops end that b may follow, of the stops below N
@@ -46,7 +46,7 @@ reach k N b = cond (ltb b k) N b
 -- what the beginning of the search is given: the table of the legs, and room
 pub record BeginGiven (N : ℕ) (costs totals parents ranks : List ℕ) : Type 0 where
   pub few : N < mostStops
-  pub costed : mostStops * mostStops ≤ length costs
+  pub costed : Costed costs
   pub totalled : N < length totals
   pub parented : N < length parents
   pub ranked : N < length ranks
@@ -92,7 +92,7 @@ pub record SettleGiven (N : ℕ) (plan costs : List ℕ) (q : ℕ) (totals paren
   pub stop : q < N
   pub follows : follower plan q < N
   pub planned : N < length plan
-  pub costed : mostStops * mostStops ≤ length costs
+  pub costed : Costed costs
   pub totalled : N ≤ length totals
   pub parented : N ≤ length parents
   pub leg : legAt costs q (follower plan q) ≤ at totals q
@@ -110,7 +110,7 @@ pub record Ready (k N : ℕ) (f : ℕ → ℕ) (c : ℕ → ℕ → ℕ) (head :
 -- the lists of a search are long enough
 pub record Sized (N : ℕ) (plan costs totals parents ranks : List ℕ) : Type 0 where
   pub planned : N < length plan
-  pub costed : mostStops * mostStops ≤ length costs
+  pub costed : Costed costs
   pub totalled : N < length totals
   pub parented : N < length parents
   pub ranked : N < length ranks
@@ -181,7 +181,7 @@ pub record RenewGiven (N : ℕ) (plan totals costs : List ℕ) (weights : List �
   pub planned : N < length plan
   pub totalsLong : N < length totals
   pub weighed : N < length weights
-  pub costed : mostStops * mostStops ≤ length costs
+  pub costed : Costed costs
   pub matched : Matched N (follower plan)
   pub totalled : Totalled N (follower plan) (legAt costs) (at totals)
 

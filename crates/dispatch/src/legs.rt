@@ -1,36 +1,56 @@
-// The leg costs as one table of numbers: a row for each follower, a column for each stop, rows of one length.
+// The leg costs as one table of numbers. Its rows are of one length, with a column for each stop: row 0 is for free ends, row x + 1
+// for the place x, and the last row says of each follower which row is its own.
 use book::Book;
 use road::Road;
-ghost use mathlib.Core.List.{[], _∷_, _++_};
 ghost use mathlib.Core.Path.{_≡_};
-ghost use Prim.Native.Nat.{ℕ, _+_, _*_, _<_, _≤_};
+ghost use Prim.Native.Nat.{_<_, _≤_};
 ghost use lib.ListN.{length, getD};
 ghost use Rattle.base.specs.Lists.{upTo};
-ghost use Rattle.road.specs.Table.{metresOf, entry};
-ghost use Rattle.dayfile.specs.Day.{mostCranes, mostCalls};
-ghost use Rattle.workfunction.specs.Plan.{stops, place, legCost, freeCost};
+ghost use Rattle.road.specs.Table.{mostPlaces, metresOf, entry};
+ghost use Rattle.workfunction.specs.Plan.{stops, place};
 ghost use Rattle.book.specs.Book.{mostStops, startsOf, standsOf, requestsOf};
-ghost use Rattle.dispatch.specs.Legs.{legAt, Rows, fromRow, LegTable, RowsGiven, CallRowGiven, CopyGiven, RowCopied};
+ghost use Rattle.dispatch.specs.Legs.{rowOf, legAt, Costed, Blank, LegTable, FreeTable, RowsFilled, FollowerPut, FollowersGiven, FollowersPut, TableGiven, FreeGiven, BookGiven, ColumnFilled, CallAdded};
 
 // The length of a row.
-pub(crate) const ROW: usize = Book::STOPS;
+const ROW: usize = Book::STOPS;
+
+// Where the last row begins.
+const LAST: usize = ROW * (Road::PLACES + 1);
 
 // The numbers of the whole table.
-pub(crate) const COSTS: usize = Book::STOPS * Book::STOPS;
+pub(crate) const COSTS: usize = ROW * (Road::PLACES + 2);
 
-// A table whose legs all cost 0.
+// A table in which every end is free.
 pub(crate) fn zeros() -> [u32; COSTS]
-    ensures { λ r. ⌜ ((i : ℕ) → getD r i 0 ≡ 0) ⌝ }
+    ensures { λ r. ⌜ Blank r ⌝ }
 {
     [0; COSTS]
 }
 
+// The row of follower b.
+fn row_of(costs: &[u32], b: usize) -> usize
+    requires { ⌜ (b < mostStops) × Costed (now costs) ⌝ }
+    ensures { λ r. ⌜ (r ≡ rowOf (now (costs .entry)) b) × (r ≤ mostPlaces) ⌝ }
+{
+    costs[LAST + b] as usize
+}
+
 // The cost of the leg from stop p to follower b.
 pub(crate) fn cost(costs: &[u32], p: usize, b: usize) -> u32
-    requires { ⌜ (p < mostStops) × ((b < mostStops) × (mostStops * mostStops ≤ length (now costs))) ⌝ }
+    requires { ⌜ (p < mostStops) × ((b < mostStops) × Costed (now costs)) ⌝ }
     ensures { λ r. ⌜ r ≡ legAt (now (costs .entry)) p b ⌝ }
 {
-    costs[ROW * b + p]
+    costs[ROW * row_of(costs, b) + p]
+}
+
+// The costs of the legs to follower b from the stops below `end`.
+pub(crate) fn row_to(costs: &[u32], b: usize, end: usize) -> &[u32]
+    requires { ⌜ (end ≤ mostStops) × ((b < mostStops) × Costed (now costs)) ⌝ }
+    ensures { λ r. ⌜ now r ≡ upTo end (λ p. legAt (now (costs .entry)) p b) ⌝ }
+{
+    let from = ROW * row_of(costs, b);
+    let to = from + end;
+    &costs[from..to]
 }
 
 // The metres to the place `to` from each place of a list.
@@ -45,7 +65,7 @@ fn fill_from(table: &[u32], places: &[u16], to: usize, row: &mut [u32])
     }
 }
 
-// The row of a follower at the place `to`: the metres to it from each stop.
+// The row of the place `to`: the metres to it from each stop.
 fn fill_row(table: &[u32], starts: &[u16], calls: &[u16], to: usize, row: &mut [u32])
     requires { ⌜ (length (now starts) ≤ length (now row)) × (length (now row) ≤ stops (now starts) (now calls)) ⌝ }
     ensures { λ _. ⌜ now (row .exit) ≡ upTo (length (now (row .entry))) (λ p. entry (metresOf (now (table .entry))) (place (now (starts .entry)) (now (calls .entry)) p) to) ⌝ }
@@ -55,105 +75,63 @@ fn fill_row(table: &[u32], starts: &[u16], calls: &[u16], to: usize, row: &mut [
     fill_from(table, calls, to, &mut row[cranes..]);
 }
 
-// The rows of the followers from `first` on.
-fn fill_rows(
-    table: &[u32],
-    starts: &[u16],
-    calls: &[u16],
-    stands: &[u16],
-    first: usize,
-    costs: &mut [u32],
-)
-    requires { ⌜ RowsGiven (now starts) (now calls) (now stands) first (now costs) ⌝ }
-    ensures { λ _. ⌜ Rows (stops (now (starts .entry)) (now (calls .entry))) (stops (now (starts .entry)) (now (calls .entry))) (fromRow first (legAt (now (costs .entry))) (legCost (entry (metresOf (now (table .entry)))) (now (starts .entry)) (now (calls .entry)) (now (stands .entry)))) (now (costs .exit)) ⌝ }
+// The rows of all places.
+fn fill_rows(table: &[u32], starts: &[u16], calls: &[u16], costs: &mut [u32])
+    requires { ⌜ (stops (now starts) (now calls) ≤ mostStops) × Costed (now costs) ⌝ }
+    ensures { λ _. ⌜ RowsFilled mostPlaces (entry (metresOf (now (table .entry)))) (now (starts .entry)) (now (calls .entry)) (now (costs .entry)) (now (costs .exit)) ⌝ }
 {
     let stops = starts.len() + calls.len();
-    let mut b = first;
-    while b < stops {
-        let at = ROW * b;
-        fill_row(
-            table,
-            starts,
-            calls,
-            Book::place_of(stands, calls, b) as usize,
-            &mut costs[at..at + stops],
-        );
-        b += 1;
+    let mut x = 0;
+    while x < Road::PLACES {
+        let at = ROW * (x + 1);
+        fill_row(table, starts, calls, x, &mut costs[at..at + stops]);
+        x += 1;
+    }
+}
+
+// Follower b is at `place` from here on.
+pub(crate) fn put(b: usize, place: u16, costs: &mut [u32])
+    requires { ⌜ (b < mostStops) × ((place < mostPlaces) × Costed (now costs)) ⌝ }
+    ensures { λ _. ⌜ FollowerPut b place (now (costs .entry)) (now (costs .exit)) ⌝ }
+{
+    costs[LAST + b] = place as u32 + 1;
+}
+
+// The followers from `first` on are at these places.
+fn put_all(places: &[u16], first: usize, costs: &mut [u32])
+    requires { ⌜ FollowersGiven (now places) first (now costs) ⌝ }
+    ensures { λ _. ⌜ FollowersPut (length (now (places .entry))) first (now (places .entry)) (now (costs .entry)) (now (costs .exit)) ⌝ }
+{
+    let mut i = 0;
+    while i < places.len() {
+        put(first + i, places[i], costs);
+        i += 1;
     }
 }
 
 // The whole table of a book's legs.
-pub(crate) fn fill(table: &[u32], starts: &[u16], calls: &[u16], stands: &[u16], costs: &mut [u32])
-    requires { ⌜ RowsGiven (now starts) (now calls) (now stands) 0 (now costs) ⌝ }
-    ensures { λ _. ⌜ LegTable (entry (metresOf (now (table .entry)))) (now (starts .entry)) (now (calls .entry)) (now (stands .entry)) (now (costs .exit)) ⌝ }
+fn fill(table: &[u32], starts: &[u16], calls: &[u16], stands: &[u16], costs: &mut [u32])
+    requires { ⌜ TableGiven (now starts) (now calls) (now stands) (now costs) ⌝ }
+    ensures { λ _. ⌜ LegTable mostPlaces (entry (metresOf (now (table .entry)))) (now (starts .entry)) (now (calls .entry)) (now (stands .entry)) (now (costs .exit)) ⌝ }
 {
-    fill_rows(table, starts, calls, stands, 0, costs);
+    fill_rows(table, starts, calls, costs);
+    put_all(stands, 0, costs);
+    put_all(calls, starts.len(), costs);
 }
 
-// The column of the stop p, at the place `from`: the metres from it to each follower below it.
-fn fill_column(
-    table: &[u32],
-    stands: &[u16],
-    calls: &[u16],
-    from: usize,
-    p: usize,
-    costs: &mut [u32],
-)
-    requires { ⌜ (p < mostStops) × ((p ≤ stops (now stands) (now calls)) × (mostStops * mostStops ≤ length (now costs))) ⌝ }
-    ensures { λ _. ⌜ ((b : ℕ) → b < p → legAt (now (costs .exit)) p b ≡ entry (metresOf (now (table .entry))) from (place (now (stands .entry)) (now (calls .entry)) b)) × ((q b : ℕ) → q < p → legAt (now (costs .exit)) q b ≡ legAt (now (costs .entry)) q b) ⌝ }
-{
-    let mut b = 0;
-    while b < p {
-        let to = Book::place_of(stands, calls, b) as usize;
-        costs[ROW * b + p] = Road::metres(table, from, to);
-        b += 1;
-    }
-}
-
-// The table of a book's legs once a call at `at` is appended: one row and one column more.
-pub(crate) fn extend(
-    table: &[u32],
-    starts: &[u16],
-    calls: &[u16],
-    stands: &[u16],
-    at: u16,
-    costs: &mut [u32],
-)
-    requires { ⌜ CallRowGiven (entry (metresOf (now table))) (now starts) (now calls) (now stands) (now costs) ⌝ }
-    ensures { λ _. ⌜ LegTable (entry (metresOf (now (table .entry)))) (now (starts .entry)) (now (calls .entry) ++ (at ∷ [])) (now (stands .entry)) (now (costs .exit)) ⌝ }
-{
-    let new = starts.len() + calls.len();
-    let row = ROW * new;
-    let to = at as usize;
-    fill_row(table, starts, calls, to, &mut costs[row..row + new]);
-    fill_column(table, stands, calls, to, new, costs);
-    costs[row + new] = Road::metres(table, to, to);
-}
-
-// The row of one follower becomes that of another, as far as the stops below `count`.
-pub(crate) fn copy_row(count: usize, from: usize, to: usize, costs: &mut [u32])
-    requires { ⌜ CopyGiven count from to (now costs) ⌝ }
-    ensures { λ _. ⌜ RowCopied count from to (now (costs .entry)) (now (costs .exit)) ⌝ }
-{
-    let mut p = 0;
-    while p < count {
-        costs[ROW * to + p] = costs[ROW * from + p];
-        p += 1;
-    }
-}
-
-// The table of legs with free ends, from one of zeros: the rows of the calls.
+// The table of legs with free ends, from one of zeros.
 pub(crate) fn fill_free(table: &[u32], starts: &[u16], calls: &[u16], costs: &mut [u32])
-    requires { ⌜ (stops (now starts) (now calls) ≤ mostStops) × ((mostStops * mostStops ≤ length (now costs)) × ((i : ℕ) → getD (now costs) i 0 ≡ 0)) ⌝ }
-    ensures { λ _. ⌜ Rows (stops (now (starts .entry)) (now (calls .entry))) (stops (now (starts .entry)) (now (calls .entry))) (freeCost (entry (metresOf (now (table .entry)))) (now (starts .entry)) (now (calls .entry))) (now (costs .exit)) ⌝ }
+    requires { ⌜ FreeGiven (now starts) (now calls) (now costs) ⌝ }
+    ensures { λ _. ⌜ FreeTable (entry (metresOf (now (table .entry)))) (now (starts .entry)) (now (calls .entry)) (now (costs .exit)) ⌝ }
 {
-    fill_rows(table, starts, calls, starts, starts.len(), costs);
+    fill_rows(table, starts, calls, costs);
+    put_all(calls, starts.len(), costs);
 }
 
 // The table of a book's legs.
 pub(crate) fn of_book(book: Book, table: &[u32], costs: &mut [u32])
-    requires { ⌜ (book .cranes ≤ mostCranes) × ((book .calls ≤ mostCalls) × (mostStops * mostStops ≤ length (now costs))) ⌝ }
-    ensures { λ _. ⌜ LegTable (entry (metresOf (now (table .entry)))) (startsOf book) (requestsOf book) (standsOf book) (now (costs .exit)) ⌝ }
+    requires { ⌜ BookGiven book (now costs) ⌝ }
+    ensures { λ _. ⌜ LegTable mostPlaces (entry (metresOf (now (table .entry)))) (startsOf book) (requestsOf book) (standsOf book) (now (costs .exit)) ⌝ }
 {
     let starts = book.starts;
     let requests = book.requests;
@@ -165,4 +143,25 @@ pub(crate) fn of_book(book: Book, table: &[u32], costs: &mut [u32])
         &stands[..book.cranes],
         costs,
     );
+}
+
+// The column of stop p, at the place `from`: the metres from it to each place.
+fn fill_column(table: &[u32], from: usize, p: usize, costs: &mut [u32])
+    requires { ⌜ (p < mostStops) × Costed (now costs) ⌝ }
+    ensures { λ _. ⌜ ColumnFilled mostPlaces (entry (metresOf (now (table .entry))) from) p (now (costs .entry)) (now (costs .exit)) ⌝ }
+{
+    let mut x = 0;
+    while x < Road::PLACES {
+        costs[ROW * (x + 1) + p] = Road::metres(table, from, x);
+        x += 1;
+    }
+}
+
+// The call of the number `new`, at `place`, is added to the table: one column, and its row as a follower.
+pub(crate) fn extend(table: &[u32], new: usize, place: u16, costs: &mut [u32])
+    requires { ⌜ (new < mostStops) × ((place < mostPlaces) × Costed (now costs)) ⌝ }
+    ensures { λ _. ⌜ CallAdded (entry (metresOf (now (table .entry)))) new place (now (costs .entry)) (now (costs .exit)) ⌝ }
+{
+    fill_column(table, place as usize, new, costs);
+    put(new, place, costs);
 }

@@ -25,9 +25,6 @@ pub(crate) fn of_book(book: Book, table: &[u32], place: u16, nets: &mut [u64], c
 {
     let cranes = book.cranes;
     let new = cranes + book.calls;
-    let starts = book.starts;
-    let requests = book.requests;
-    let stands = book.stands;
     let weights = book.weights;
     let mut plan = book.plan;
     let mut totals = [0; Book::STOPS];
@@ -35,14 +32,7 @@ pub(crate) fn of_book(book: Book, table: &[u32], place: u16, nets: &mut [u64], c
     let mut ranks = [0; Book::STOPS];
     let mut before = [0; Book::CRANES];
     legs::of_book(book, table, costs);
-    legs::extend(
-        table,
-        &starts[..cranes],
-        &requests[..book.calls],
-        &stands[..cranes],
-        place,
-        costs,
-    );
+    legs::extend(table, new, place, costs);
     insert::find(
         cranes,
         new,

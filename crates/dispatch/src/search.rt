@@ -121,9 +121,8 @@ fn settle(
 {
     let b = plan[q] as usize;
     let net = totals[q] - legs::cost(costs, q, b) as u64;
-    let row = legs::ROW * b;
-    let end = row + limit(cranes, new, b);
-    relax(&costs[row..end], net, q, totals, parents);
+    let row = legs::row_to(costs, b, limit(cranes, new, b));
+    relax(row, net, q, totals, parents);
 }
 
 // Settles the stops below `new`, each in its turn the open one of least key; the last one of the list takes its place.

@@ -35,12 +35,12 @@ pub(crate) fn serve_call(
 {
     let cranes = starts.len();
     let new = cranes + calls.len();
-    legs::extend(table, starts, calls, stands, place, costs);
+    legs::extend(table, new, place, costs);
     let crane = insert::insert(cranes, new, pick, costs, plan, weights);
     let metres = Road::metres(table, stands[crane] as usize, place as usize);
     stands[crane] = place;
     weights[crane] = 0;
-    legs::copy_row(new + 1, new, crane, costs);
+    legs::put(crane, place, costs);
     Step {
         crane,
         metres,

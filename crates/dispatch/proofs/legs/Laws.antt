@@ -1,60 +1,90 @@
--- The laws of a table of leg costs into which a leg or a row is written, and of a row that is filled in two parts.
+-- The laws of a table of leg costs into which a number or a row is written, and of a row that is filled in two parts.
 -- Assumes nothing.
 use Prim.Native.Nat.{ℕ, _+_, _-_, _*_, _<_, _≤_}
 use mathlib.Core.List.{List, [], _++_, append-nil}
 use mathlib.Core.Path.{_≡_, sym, ap, _∙_}
 use lib.ListN.{length, getD, set, take, drop, length-append, length-drop, drop-of-length-le, List·getD-append}
-use lib.Seq.{length-take-le, take-at, drop-at, getD-append-add, getD-take, getD-set-same, getD-set-other}
+use lib.Seq.{length-take-le, take-at, drop-at, getD-append-add, getD-take, getD-drop, getD-set-same, getD-set-other}
 use native.Mathlib.Omega.{arith}
 use Rattle.base.specs.Lists.{upTo}
 use Rattle.base.proofs.Lists.{length-upTo, getD-upTo, upTo-same, upTo-append}
+use Rattle.base.proofs.Tests.{by-order}
 use Rattle.workfunction.specs.Plan.{stops, place}
 use Rattle.workfunction.proofs.Stops.{place-stand}
 use Rattle.book.specs.Book.{mostStops}
 use Rattle.book.proofs.Places.{place-past}
-use Rattle.dispatch.specs.Legs.{legAt}
-use Rattle.dispatch.proofs.search.Lent.{lent, length-lent}
+use Rattle.dispatch.specs.Legs.{cell, rowOf, Costed}
 
--- the leg from stop p to follower b is written
-module _ (costs : List ℕ) (p b v : ℕ) (col : p < mostStops) where
-  pub leg-written : mostStops * b + p < length costs → legAt (set costs (mostStops * b + p) v) p b ≡ v
-  unfolding legAt
-  leg-written fits = getD-set-same costs (mostStops * b + p) v 0 fits
+-- a table whose followers keep their rows
+pub costed-kept : {costs costs' : List ℕ} → Costed costs → length costs' ≡ length costs
+    → ((b : ℕ) → b < mostStops → rowOf costs' b ≡ rowOf costs b) → Costed costs'
+costed-kept k long same = record { long = rw long (k .long); rows = λ b h. rw (same b h) (k .rows b h) }
 
-  -- every other leg is as it was
-  pub leg-kept : (q a : ℕ) → q < mostStops → (q ≡ p → a ≡ b → ⊥) → legAt (set costs (mostStops * b + p) v) q a ≡ legAt costs q a
-  unfolding legAt
-  leg-kept q a lt other =
-      getD-set-other costs (mostStops * b + p) (mostStops * a + q) v 0 (λ (e : mostStops * a + q ≡ mostStops * b + p). other (omega arith) (omega arith))
+-- the number in row i, column p is written
+module _ (costs : List ℕ) (i p v : ℕ) (col : p < mostStops) where
+  pub cell-written : mostStops * i + p < length costs → cell (set costs (mostStops * i + p) v) i p ≡ v
+  unfolding cell
+  cell-written fits = getD-set-same costs (mostStops * i + p) v 0 fits
 
--- the table with its row of the follower b, as far as n stops, put back after it was lent
+  -- every other number is as it was
+  pub cell-kept : (j q : ℕ) → q < mostStops → (j ≡ i → q ≡ p → ⊥) → cell (set costs (mostStops * i + p) v) j q ≡ cell costs j q
+  unfolding cell
+  cell-kept j q lt other =
+      getD-set-other costs (mostStops * i + p) (mostStops * j + q) v 0 (λ (e : mostStops * j + q ≡ mostStops * i + p). other (omega arith) (omega arith))
+
+-- row i, as far as n columns, as it is lent
+abbrev pub lent : List ℕ → ℕ → ℕ → List ℕ
+lent costs i n = take (mostStops * i + n - mostStops * i) (drop (mostStops * i) costs)
+
+-- the table with that row put back
 abbrev pub rowBack : List ℕ → ℕ → ℕ → List ℕ → List ℕ
-rowBack costs b n row = take (mostStops * b) costs ++ (row ++ drop (mostStops * b + n - mostStops * b) (drop (mostStops * b) costs))
+rowBack costs i n row = take (mostStops * i) costs ++ (row ++ drop (mostStops * i + n - mostStops * i) (drop (mostStops * i) costs))
 
 -- the row is filled by g
-module _ (costs row : List ℕ) (b n : ℕ) (g : ℕ → ℕ) (fits : mostStops * b + n ≤ length costs)
-    (same : row ≡ upTo (length (lent costs b (mostStops * b + n))) g) where
+module _ (costs row : List ℕ) (i n : ℕ) (g : ℕ → ℕ) (fits : mostStops * i + n ≤ length costs)
+    (same : row ≡ upTo (length (lent costs i n)) g) where
   row-is : row ≡ upTo n g
-  row-is = same ∙ ap (λ (m : ℕ). upTo m g) (length-lent costs b (mostStops * b + n) fits ∙ omega arith)
+  row-is =
+      same
+      ∙ ap (λ (m : ℕ). upTo m g)
+      (length-take-le (mostStops * i + n - mostStops * i) (drop (mostStops * i) costs) (rw length-drop (omega arith)) ∙ omega arith)
 
-  front : length (take (mostStops * b) costs) ≡ mostStops * b
-  front = length-take-le (mostStops * b) costs (omega arith)
+  row-long : length row ≡ n
+  row-long = ap length row-is ∙ length-upTo n g
 
-  pub length-row : length (rowBack costs b n row) ≡ length costs
-  length-row = rw row-is (simp (length-append, front, length-upTo, length-drop) (omega arith))
+  front : length (take (mostStops * i) costs) ≡ mostStops * i
+  front = length-take-le (mostStops * i) costs (omega arith)
 
-  -- the rows before are as they were
-  pub row-kept : (p a : ℕ) → p < mostStops → a < b → legAt (rowBack costs b n row) p a ≡ legAt costs p a
-  unfolding legAt
-  row-kept p a h l =
-      List·getD-append (take (mostStops * b) costs) _ 0 (mostStops * a + p) (rw front (omega arith))
-      ∙ getD-take (mostStops * b) costs (mostStops * a + p) 0 (omega arith)
+  pub length-row : length (rowBack costs i n row) ≡ length costs
+  length-row = simp (length-append, front, row-long, length-drop) (omega arith)
 
-  pub row-new : (p : ℕ) → p < n → legAt (rowBack costs b n row) p b ≡ g p
-  unfolding legAt
+  pub row-new : (p : ℕ) → p < n → cell (rowBack costs i n row) i p ≡ g p
+  unfolding cell
   row-new p h =
-      ap (λ (i : ℕ). getD (rowBack costs b n row) (i + p) 0) (sym front) ∙ getD-append-add (take (mostStops * b) costs) _ p 0
+      ap (λ (m : ℕ). getD (rowBack costs i n row) (m + p) 0) (sym front) ∙ getD-append-add (take (mostStops * i) costs) _ p 0
       ∙ rw row-is (List·getD-append (upTo n g) _ 0 p (rw length-upTo h)) ∙ getD-upTo n g p 0 h
+
+  -- what stands before the row and behind it is as it was
+  before : (k : ℕ) → k < mostStops * i → getD (rowBack costs i n row) k 0 ≡ getD costs k 0
+  before k h = List·getD-append (take (mostStops * i) costs) _ 0 k (rw front h) ∙ getD-take (mostStops * i) costs k 0 h
+
+  behind : (m : ℕ) → getD (rowBack costs i n row) (mostStops * i + (n + m)) 0 ≡ getD costs (mostStops * i + (n + m)) 0
+  behind m =
+      let e : mostStops * i + n - mostStops * i ≡ n = omega arith in
+      ap (λ (k : ℕ). getD (rowBack costs i n row) (k + (n + m)) 0) (sym front) ∙ getD-append-add (take (mostStops * i) costs) _ (n + m) 0
+      ∙ ap (λ (k : ℕ). getD (row ++ drop (mostStops * i + n - mostStops * i) (drop (mostStops * i) costs)) (k + m) 0) (sym row-long)
+      ∙ getD-append-add row _ m 0 ∙ rw e (getD-drop n (drop (mostStops * i) costs) m 0) ∙ getD-drop (mostStops * i) costs (n + m) 0
+
+  -- and so are the other rows
+  pub row-kept : n ≤ mostStops → (j p : ℕ) → p < mostStops → (j ≡ i → ⊥) → cell (rowBack costs i n row) j p ≡ cell costs j p
+  unfolding cell
+  row-kept few j p h away =
+      by-order j i (λ l. before (mostStops * j + p) (omega arith)) (λ e. absurd (away e)) (λ l. far (mostStops * j + p) (omega arith))
+    where
+      far : (k : ℕ) → mostStops * i + n ≤ k → getD (rowBack costs i n row) k 0 ≡ getD costs k 0
+      far k le =
+          let e : mostStops * i + (n + (k - n - mostStops * i)) ≡ k = omega arith in
+          rw e at (behind (k - n - mostStops * i))
 
 -- a row in two parts: from the starts, then from the calls
 module _ (d : ℕ → ℕ) (starts calls row front back : List ℕ) (some : length starts ≤ length row) (most : length row ≤ stops starts calls)

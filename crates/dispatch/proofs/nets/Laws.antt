@@ -1,6 +1,6 @@
 -- The net costs of a book's cranes: what the search finds tells w and the drive of each, and the list that is told has them, signed. Assumes
 -- nothing.
-use Prim.Native.Nat.{ℕ, _+_, _<_}
+use Prim.Native.Nat.{ℕ, _<_}
 use mathlib.Core.List.{List, [], _∷_, _++_}
 use mathlib.Core.Path.{_≡_}
 use lib.IntN.{ℤ, pos, _-ℤ_}
@@ -13,11 +13,12 @@ use Rattle.road.specs.Table.{Table, metresOf, entry}
 use Rattle.dayfile.specs.Day.{mostCranes, mostCalls}
 use Rattle.workfunction.specs.Choice.{moved, netCost}
 use Rattle.workfunction.specs.Movement.{work}
+use Rattle.workfunction.specs.Plan.{stops}
 use Rattle.book.specs.declared.Book.{Book}
 use Rattle.book.specs.Book.{startsOf, standsOf, requestsOf, stopsOf, follower, BookArrays}
 use Rattle.book.proofs.Sound.{Fits, starts-long, requests-long, stops-long, sound-fits}
 use Rattle.dispatch.specs.Insertion.{Found, Kept, BookNetted}
-use Rattle.dispatch.specs.Legs.{legAt, LegTable}
+use Rattle.dispatch.specs.Legs.{legAt, CallAdded}
 use Rattle.dispatch.specs.NetCosts.{NetList, netsByCrane}
 use Rattle.dispatch.specs.Search.{at, netBase}
 use Rattle.dispatch.proofs.Answered.{kept-most, kept-present, kept-netted}
@@ -29,25 +30,32 @@ module _ {book : Book} {n : ℕ} {t : Table} {r : ℕ} (arrays : BookArrays book
   fits : Fits book
   fits = sound-fits arrays (called .sound)
 
+  -- the call follows the book's stops
+  pub call-last : {costs longer : List ℕ} → CallAdded (entry (metresOf t)) (stopsOf book) r costs longer
+      → CallAdded (entry (metresOf t)) (stops (startsOf book) (requestsOf book)) r costs longer
+  call-last added = rw (stops-long fits) added
+
   -- what the search delivers of a book, over the legs with the call
   pub book-netted : {costs longer plan nets : List ℕ} {total parent rank before : ℕ → ℕ}
       → Kept n (metresOf t) (startsOf book) (requestsOf book) (standsOf book) (book .plan) (book .weights) costs
-      → LegTable (entry (metresOf t)) (startsOf book) (requestsOf book ++ (r ∷ [])) (standsOf book) longer
+      → CallAdded (entry (metresOf t)) (stopsOf book) r costs longer
       → plan ≡ set (book .plan) (stopsOf book) (stopsOf book)
       → Found (book .cranes) (stopsOf book) (follower plan) (legAt longer) total parent rank before (at nets)
       → BookNetted book n t r nets longer
-  book-netted {nets = nets} {total = total} {parent} {rank} {before} kept extended e found =
+  book-netted {nets = nets} {total = total} {parent} {rank} {before} kept added e found =
       let roads = sound-roads (called .sound) in
+      let longer = call-last added in
       let room : length (requestsOf book) < mostCalls = rw (requests-long fits) (called .space) in
       let few = called .sound .counts in
-      let most = rw (stops-long fits) at (kept-most roads kept room (called .on) extended) in
+      let most = rw (stops-long fits) at (kept-most roads kept room (called .on) longer) in
       record {
         netted =
-            kept-netted roads kept room (called .on) extended {total = total} {parent = parent} {rank = rank} {before = before} {netEnd = at nets}
+            kept-netted roads kept room (called .on) longer {total = total} {parent = parent} {rank = rank} {before = before} {netEnd = at nets}
             (rw (starts-long fits, requests-long fits, ← e) found);
-        present = rw (stops-long fits) at (kept-present roads kept room (called .on) extended);
+        present = rw (stops-long fits) at (kept-present roads kept room (called .on) longer);
         most = omega arith;
         low = ends-low found;
+        costed = added .costed;
       }
 
   -- the list: the signed net cost of each crane is w once it is moved less w of the stands

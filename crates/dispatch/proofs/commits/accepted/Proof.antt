@@ -8,14 +8,14 @@ use lib.ListN.{length, getD}
 use native.Mathlib.Omega.{arith}
 use mir.Syntax.{w32}
 use mir.Val.{Fits as Val·Fits}
-use Rattle.road.specs.Table.{Table, mostMetres, metresOf, entry}
+use Rattle.road.specs.Table.{Table, mostPlaces, mostMetres, metresOf, entry}
 use Rattle.book.specs.declared.Book.{Book}
 use Rattle.book.specs.Book.{mostStops, startsOf, standsOf, requestsOf, BookArrays, SameBook}
 use Rattle.dispatch.specs.Insertion.{Kept}
 use Rattle.dispatch.specs.Legs.{LegTable}
 use Rattle.dispatch.specs.Commit.{commitRefusal}
 use Rattle.dispatch.proofs.Called.{Called, commit-called}
-use Rattle.dispatch.proofs.Carried.{sound-kept, sent as Carried·sent, driven-room, committed-after, next}
+use Rattle.dispatch.proofs.Carried.{sound-given, sound-kept, sent as Carried·sent, driven-room, committed-after, next}
 use Rattle.book.proofs.Sound.{Fits, fit, starts-long, stands-long, requests-long, book-sound, sound-book, sound-fits}
 use Rattle.dispatch.proofs.Roads.{sound-roads}
 use Rattle.dispatch.proofs.tidy.Laws.{tidy-same, tidy-refusal, tidy-plan, tidy-driven, tidy-weights}
@@ -68,11 +68,11 @@ tidy-fits : (t : tie.After-tidy) → Fits (tidy t)
 tidy-fits t = sound-fits (arrays t) (tested-so t .sound)
 
 -- it is a day under way
-kept : {costs : List ℕ} (t : tie.After-tidy) (n : ℕ) → let s = t .before in Accepted s n → mostStops * mostStops ≤ length costs
-    → LegTable (entry (metresOf (table s))) (startsOf (tidy t)) (requestsOf (tidy t)) (standsOf (tidy t)) costs
+kept : {costs : List ℕ} (t : tie.After-tidy) (n : ℕ) → let s = t .before in Accepted s n
+    → LegTable mostPlaces (entry (metresOf (table s))) (startsOf (tidy t)) (requestsOf (tidy t)) (standsOf (tidy t)) costs
     → Kept n (metresOf (table s)) (startsOf (tidy t)) (requestsOf (tidy t)) (standsOf (tidy t)) (tidy t .plan) (tidy t .weights) costs
-kept t n h long legs =
-    sound-kept (arrays t) (tested t n h .sound) (omega (arith, plan-long t)) (omega (arith, weights-long t)) long legs
+kept t n h legs =
+    sound-kept (arrays t) (tested t n h .sound) (omega (arith, plan-long t)) (omega (arith, weights-long t)) legs
 
 -- the places at which the arrays are lent
 abbrev at-costs : tie.After-costs → tie.After-tidy
@@ -97,7 +97,7 @@ slice-aggregate-of-book : tie.Need-slice-aggregate-of-book
 slice-aggregate-of-book c = search needs
 
 of-book-requires : tie.Need-of-book-requires
-of-book-requires c κs = let k = tested-so (at-costs c) .sound .counts in (k .cranes, (k .calls, search needs))
+of-book-requires c κs = let t = at-costs c in sound-given (arrays t) (tested-so t .sound) (c .before .zeros .ensures .costed)
 
 array-share-prefix-starts : tie.Need-array-share-prefix-starts
 array-share-prefix-starts c = tidy-fits (at-fill c) .starts
@@ -132,7 +132,7 @@ serve-call-requires c κs =
     let s = t .before in
     let k = tested-so t in
     let f = c .before .before .before .before .before .before .before .of-book .ensures in
-    let day = kept t (s .pre .0) (s .pre .1) (search needs) f in
+    let day = kept t (s .pre .0) (s .pre .1) f in
     record {
       places = s .pre .0;
       metres = metresOf (table s);
@@ -157,7 +157,7 @@ sent a =
     let s = t .before in
     let k = tested-so t in
     let f = a .before .before .before .before .before .before .before .before in
-    let day = kept t (s .pre .0) (s .pre .1) (omega (arith, f .of-book .kept)) (f .of-book .ensures) in
+    let day = kept t (s .pre .0) (s .pre .1) (f .of-book .ensures) in
     let answered = a .serve-call .ensures .answered (s .pre .0) (metresOf (table s)) (sound-roads (k .sound)) day (k .on) in
     (Carried·sent (arrays t) (k .sound) (k .on) (k .space) answered, driven-room (arrays t) (k .sound) (k .on) (k .space) answered (tidy-driven _ (t .tidy .ensures)))
 
@@ -186,7 +186,7 @@ returns c = λ n h.
     let e = t .tidy .ensures in
     let a = c .before .before .before .before .before in
     let f = a .before .before .before .before .before .before .before .before in
-    let day = kept t n h (omega (arith, f .of-book .kept)) (f .of-book .ensures) in
+    let day = kept t n h (f .of-book .ensures) in
     let answered = a .serve-call .ensures .answered n (metresOf (table (t .before))) (sound-roads (k .sound)) day (k .on) in (
       committed-after (arrays t) (k .sound) (k .on) (k .space) answered refl e (same t n h),
       next (arrays t) (k .sound) (k .on) (k .space) answered (a .serve-call .ensures .unmoved) (tidy-plan _ e) (tidy-weights _ e),

@@ -4,13 +4,13 @@ use mathlib.Core.Path.{_≡_, _∙_}
 use borrow.Author.Needs.{needs}
 use lib.ListN.{length}
 use native.Mathlib.Omega.{arith}
-use Rattle.road.specs.Table.{metresOf, entry}
 use Rattle.workfunction.proofs.Plan.{plan-facts}
+use Rattle.workfunction.proofs.Stops.{follower-placed}
 use Rattle.book.specs.Book.{mostStops, stopsOf, BookArrays}
-use Rattle.book.proofs.Places.{same-costs}
-use Rattle.book.proofs.Sound.{stops-long, Sound, book-sound, sound-fits, sound-work}
+use Rattle.book.proofs.Sound.{stops-long, Sound, book-sound, sound-fits, sound-instance, sound-standing, sound-work}
 use Rattle.book.proofs.Vouching.{cost-over-legs}
-use Rattle.dispatch.proofs.Roads.{sound-roads}
+use Rattle.dispatch.proofs.Carried.{sound-given, sound-table}
+use Rattle.dispatch.proofs.LegTable.{table-leg}
 use Rattle.dispatch.proofs.cost.least.Statement.{statement}
 use Rattle.dispatch.proofs.cost.least.Tie as tie
 
@@ -31,7 +31,7 @@ slice-aggregate-of-book : tie.Need-slice-aggregate-of-book
 slice-aggregate-of-book c = search needs
 
 of-book-requires : tie.Need-of-book-requires
-of-book-requires c κs = let k = sound (c .before .before .before) .counts in (k .cranes, (k .calls, search needs))
+of-book-requires c κs = let s = c .before .before .before in sound-given (arrays s) (sound s) (c .before .zeros .ensures .costed)
 
 add-cost : tie.Need-add-cost
 add-cost c = let k = sound (c .before .before .before .before .before .before) .counts in omega arith
@@ -49,7 +49,7 @@ cost-requires c κs =
     record {
       few = omega arith;
       planned = omega (arith, plan-long s);
-      long = search needs;
+      costed = c .before .before .before .before .of-book .ensures .costed;
       below = plan-facts _ _ _ (sound s .plan) .below;
     }
 
@@ -62,9 +62,8 @@ returns c = λ n h.
     let book = s .args .book in
     c .cost .ensures
     ∙ cost-over-legs (book .cranes) (stopsOf book) (book .plan) (book .weights) _ _ (k .plan)
-    (λ p b l m. f .of-book .ensures .leg p b (rw long l) (rw long m)
-    ∙ same-costs (k .counts .place) _ _ _ (k .starts) (k .requests) (k .stands) (entry (metresOf (s .args .table .now))) (metresOf (s .args .table .now))
-    (sound-roads k .reads) p b)
+    (λ p b l m. table-leg (sound-table (arrays s) k (f .of-book .ensures)) p b (rw long l) (rw long m)
+    (follower-placed (sound-instance (arrays s) k) (sound-standing (arrays s) k) b (rw long m)))
     ∙ sound-work (arrays s) n (s .args .table .now) h
 
 pub least-spec : {M : Type 1} → statement M

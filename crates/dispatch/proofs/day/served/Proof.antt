@@ -2,6 +2,7 @@
 -- Assumes nothing.
 use mathlib.Core.Path.{sym}
 use borrow.Author.Needs.{needs}
+use Rattle.dispatch.proofs.Carried.{sound-given}
 use Rattle.dispatch.proofs.DayServed.{FreshDay, day-sound, day-fits, calls-fit, calls-long, day-called, day-asked, day-kept, day-figures}
 use Rattle.book.proofs.Sound.{starts-long, stands-long}
 use Rattle.dispatch.proofs.Roads.{sound-roads}
@@ -42,7 +43,8 @@ slice-aggregate-of-book : tie.Need-slice-aggregate-of-book
 slice-aggregate-of-book c = search needs
 
 of-book-requires : tie.Need-of-book-requires
-of-book-requires c κs = let k = day-sound (given (start c)) .counts in (k .cranes, (k .calls, search needs))
+of-book-requires c κs =
+    let g = given (start c) in sound-given (g .arrays) (day-sound g) (c .before .zeros .ensures .costed)
 
 array-share-prefix-starts : tie.Need-array-share-prefix-starts
 array-share-prefix-starts c = day-fits (given (at-calls c)) .starts
@@ -84,7 +86,7 @@ serve-all-requires : tie.Need-serve-all-requires
 serve-all-requires c κs =
     let f = filled c in
     let g = given (at-calls f) in
-    let kept = day-kept g (search needs) (f .before .of-book .ensures) in
+    let kept = day-kept g (f .before .of-book .ensures) in
     let few = day-asked g .few in
     record {
       places = _;
@@ -120,7 +122,7 @@ returns c =
     let a = answered (c .before .before .before) in
     let f = filled (a .before) in
     let g = given (at-calls f) in
-    let kept = day-kept g (search needs) (f .before .of-book .ensures) in
+    let kept = day-kept g (f .before .of-book .ensures) in
     let ways = sound-roads (day-sound g) in
     day-figures g
     (a .serve-all .ensures _ _ ways kept (day-called g))

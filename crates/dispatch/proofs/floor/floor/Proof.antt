@@ -3,10 +3,12 @@
 use mathlib.Core.Path.{_≡_, _∙_}
 use borrow.Author.Needs.{needs}
 use lib.ListN.{length}
+use native.Mathlib.Nat.{le-trans}
 use native.Mathlib.Omega.{arith}
 use Rattle.base.specs.Lists.{padded}
 use Rattle.base.proofs.Lists.{drop-replicate}
 use Rattle.workfunction.proofs.Plan.{plan-facts}
+use Rattle.workfunction.proofs.Sums.{entry-in}
 use Rattle.book.specs.Book.{mostStops}
 use Rattle.dispatch.proofs.FreeEnds.{free-short, free-begun, free-floor}
 use Rattle.dispatch.proofs.floor.floor.Statement.{statement}
@@ -44,8 +46,13 @@ slice-aggregate-fill-free c = search needs
 
 fill-free-requires : tie.Need-fill-free-requires
 fill-free-requires c κs =
-    let asked = start c .pre .asked in
-    (omega (arith, asked .cranes, asked .few), (search needs, c .before .before .before .before .zeros .ensures))
+    let p = start c .pre in
+    let asked = p .asked in
+    record {
+      few = omega (arith, asked .cranes, asked .few);
+      called = λ i h. le-trans (asked .day .called (entry-in _ i h)) (p .roads .few);
+      blank = c .before .before .before .before .zeros .ensures;
+    }
 
 slice-aggregate-insert-all : tie.Need-slice-aggregate-insert-all
 slice-aggregate-insert-all c = search needs
@@ -68,7 +75,7 @@ insert-all-requires c κs =
       few = omega (arith, p .asked .cranes, p .asked .few);
       planLong = search needs;
       weightsLong = search needs;
-      costsLong = search needs;
+      costed = table .costed;
       short = free-short (p .roads) (p .asked) table;
       certified = rw (own-plan (f .before .before .before)) (free-begun (p .roads) (p .asked) table);
     }
@@ -82,11 +89,12 @@ slice-aggregate-cost-2 c = search needs
 cost-requires : tie.Need-cost-requires
 cost-requires c κs =
     let i = inserted c in
-    let asked = start (filled (i .before) .before) .pre .asked in
+    let f = filled (i .before) in
+    let asked = start (f .before) .pre .asked in
     record {
       few = omega (arith, asked .cranes, asked .few);
       planned = search needs;
-      long = search needs;
+      costed = f .fill-free .ensures .costed;
       below = plan-facts _ _ _ (i .insert-all .ensures .planned) .below;
     }
 

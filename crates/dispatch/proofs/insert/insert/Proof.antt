@@ -110,7 +110,7 @@ find-requires c κs =
       cranes = a .pre .stops;
       netted = a .pre .cranes;
       freed = a .pre .cranes;
-      sized = record { planned = long a; costed = a .pre .costsLong; totalled = few; parented = few; ranked = few };
+      sized = record { planned = long a; costed = a .pre .costed; totalled = few; parented = few; ranked = few };
       witnessed = a .pre .witnessed;
     }
 
@@ -127,7 +127,7 @@ end-requires c κs =
       cranes = a .pre .cranes;
       few = a .pre .witnessed .few;
       netted = search needs;
-      costed = a .pre .costsLong;
+      costed = a .pre .costed;
       low = ends-low found;
     }
 
@@ -144,7 +144,7 @@ renew-requires c κs =
       planned = omega (arith, long a, f .find .kept .1 .1 .1 .1 .0);
       totalsLong = search needs;
       weighed = omega (arith, few, a .pre .weightsLong);
-      costed = a .pre .costsLong;
+      costed = a .pre .costed;
       matched = rw (f .find .ensures .0) (matched a);
       totalled = f .find .ensures .1 .searched .totals;
     }

@@ -90,7 +90,7 @@ insert-requires c κs =
       ends = λ e h. h;
       planLong = omega (arith, pre .planLong, inv .planned);
       weightsLong = omega (arith, pre .weightsLong, inv .weighed);
-      costsLong = pre .costsLong;
+      costed = pre .costed;
       witnessed = taking-witnessed _ _ _ _ _ (pre .short) (pre .few) inv (t .loop-test .taken) (pre .weightsLong);
     }
 

@@ -1,10 +1,11 @@
--- `dispatch::legs::cost` meets its contract: it reads the leg's place in the table.
--- Assumes nothing.
-use mathlib.Core.Path.{refl}
+-- `dispatch::legs::cost` meets its contract: it reads the stop's column in the follower's row. Assumes nothing.
 use borrow.Author.Needs.{needs}
-use Rattle.dispatch.specs.Legs.{legAt}
+use Rattle.dispatch.specs.Legs.{cell, legAt}
 use Rattle.dispatch.proofs.legs.cost.Statement.{statement}
 use Rattle.dispatch.proofs.legs.cost.Tie as tie
+
+row-of-requires : tie.Need-row-of-requires
+row-of-requires c κs = search needs
 
 mul-result : tie.Need-mul-result
 mul-result c = search needs
@@ -19,8 +20,8 @@ shared-slice-read-result : tie.Need-shared-slice-read-result
 shared-slice-read-result c = search needs
 
 returns : tie.Need-returns
-unfolding legAt
-returns c = refl
+unfolding cell legAt
+returns c = cc
 
 pub cost-spec : {M : Type 1} → statement M
-cost-spec = tie.close (tie.spec mul-result add-result mul-result-2 shared-slice-read-result returns)
+cost-spec = tie.close (tie.spec row-of-requires mul-result add-result mul-result-2 shared-slice-read-result returns)

@@ -1,74 +1,75 @@
--- `dispatch::legs::fill_rows` meets its contract: each turn fills the row of one follower.
--- Assumes nothing.
-use Prim.Native.Nat.{ℕ, _+_, _-_, _*_, _<_, _≤_}
+-- `dispatch::legs::fill_rows` meets its contract: each turn fills the row of one place. Assumes nothing.
+use Prim.Native.Nat.{ℕ, _+_, _-_, _*_, _<_, _≤_, zero-le}
 use mathlib.Core.List.{List}
-use mathlib.Core.Logic.{⊎-elim}
 use mathlib.Core.Path.{_≡_, refl, _∙_}
 use borrow.Author.Needs.{needs}
-use borrow.Author.Tests.{lt-ltb, le-ltb}
 use lib.ListN.{length}
-use native.Mathlib.Nat.{le-refl, eq-or-lt-of-le}
 use native.Mathlib.Omega.{arith}
 use Rattle.base.specs.Lists.{upTo}
-use Rattle.road.specs.Table.{metresOf, entry}
-use Rattle.workfunction.specs.Plan.{place, legCost}
+use Rattle.base.proofs.Tests.{one-more}
+use Rattle.road.specs.Table.{mostPlaces, metresOf, entry}
+use Rattle.workfunction.specs.Plan.{stops, place}
 use Rattle.book.specs.Book.{mostStops}
-use Rattle.dispatch.specs.Legs.{legAt, Rows, fromRow}
-use Rattle.dispatch.proofs.search.Lent.{lent}
-use Rattle.dispatch.proofs.legs.Laws.{rowBack, length-row, row-kept, row-new}
+use Rattle.dispatch.specs.Legs.{cell, rowOf, Costed, RowsFilled}
+use Rattle.dispatch.proofs.legs.Laws.{lent, rowBack, length-row, row-new, row-kept}
 use Rattle.dispatch.proofs.legs.fill_rows.Statement.{statement}
 use Rattle.dispatch.proofs.legs.fill_rows.Tie as tie
 
-module _ (d : ℕ → ℕ → ℕ) (starts calls stands old : List ℕ) (n first : ℕ) where
-  -- the invariant: of the rows of n followers those before b are filled
-  record RowsFilled (now : List ℕ) (b : ℕ) : Type 0 where
-    low : first ≤ b
-    most : b ≤ n
+module _ (read : ℕ → ℕ → ℕ) (starts calls old : List ℕ) where
+  abbrev n : ℕ
+  n = stops starts calls
+
+  -- the invariant: the rows of the places below x are filled
+  record Filling (now : List ℕ) (x : ℕ) : Type 0 where
+    most : x ≤ mostPlaces
     long : length now ≡ length old
-    rows : Rows n b (fromRow first (legAt old) (legCost d starts calls stands)) now
+    done : RowsFilled x read starts calls old now
 
-  rows-begun : first ≤ n → RowsFilled old first
-  rows-begun le = record { low = le-refl first; most = le; long = refl; rows = record { leg = λ p b h l. rw (lt-ltb b first l) } }
+  rows-begun : Filling old 0
+  rows-begun = record {
+    most = zero-le;
+    long = refl;
+    done = record { metres = λ p x h lt. absurd (omega arith); free = λ p h. refl; rows = λ b h. refl };
+  }
 
-  rows-turned : (now row : List ℕ) (b to : ℕ) → n ≤ mostStops → mostStops * mostStops ≤ length old → RowsFilled now b → b < n
-      → to ≡ place stands calls b → row ≡ upTo (length (lent now b (mostStops * b + n))) (λ p. d (place starts calls p) to)
-      → RowsFilled (rowBack now b n row) (b + 1)
-  unfolding legCost
-  rows-turned now row b to most fits f lt e same =
-      let g : ℕ → ℕ = λ p. d (place starts calls p) to in
-      let at : mostStops * b + n ≤ length now = omega arith in
+  rows-turned : (now row : List ℕ) (x : ℕ) → Filling now x → n ≤ mostStops → Costed old → x < mostPlaces
+      → row ≡ upTo (length (lent now (x + 1) n)) (λ p. read (place starts calls p) x) → Filling (rowBack now (x + 1) n row) (x + 1)
+  unfolding rowOf
+  rows-turned now row x f few k lt same =
+      let g : ℕ → ℕ = λ p. read (place starts calls p) x in
+      let long = f .long in
+      let fits = k .long in
+      let at : mostStops * (x + 1) + n ≤ length now = omega arith in
+      let kept = row-kept now row (x + 1) n g at same few in
       record {
-        low = omega arith;
         most = omega arith;
-        long = length-row now row b n g at same ∙ f .long;
-        rows = record {
-          leg = λ p a h l. ⊎-elim (λ (s : a ≡ b). rw (s, le-ltb b first (f .low), ← e) (row-new now row b n g at same p h))
-              (λ (m : a < b). row-kept now row b n g at same p a (omega arith) m ∙ f .rows .leg p a h m)
-              (eq-or-lt-of-le (omega arith));
+        long = length-row now row (x + 1) n g at same ∙ f .long;
+        done = record {
+          metres = λ p y h. one-more (λ z. cell (rowBack now (x + 1) n row) (z + 1) p ≡ read (place starts calls p) z) x
+              (row-new now row (x + 1) n g at same p h)
+              (λ z l. kept (z + 1) p (omega arith) (λ s. omega arith) ∙ f .done .metres p z h l) y;
+          free = λ p h. kept 0 p h (λ s. omega arith) ∙ f .done .free p h;
+          rows = λ b h. kept (mostPlaces + 1) b h (λ s. omega arith) ∙ f .done .rows b h;
         };
       }
 
 abbrev Inv-loop : tie.InvT-loop
-Inv-loop table starts calls stands first costs₀ stops b₀ costs b =
-    RowsFilled (entry (metresOf table)) starts calls stands costs₀ stops first costs b
+Inv-loop table starts calls costs₀ stops x₀ costs x = Filling (entry (metresOf table)) starts calls costs₀ costs x
 
 abbrev μ-loop : tie.MeasureT-loop
-μ-loop table starts calls stands first costs₀ stops b₀ costs b = stops - b
+μ-loop table starts calls costs₀ stops x₀ costs x = mostPlaces - x
 
 add-stops : tie.Need-add-stops Inv-loop μ-loop
 add-stops c = search needs
 
 loop-holds : tie.Need-loop-holds Inv-loop μ-loop
-loop-holds c = rows-begun _ _ _ _ _ _ _ (omega arith)
+loop-holds c = rows-begun _ _ _ _
+
+add-at : tie.Need-add-at Inv-loop μ-loop
+add-at c = search needs
 
 mul-at : tie.Need-mul-at Inv-loop μ-loop
 mul-at c = search needs
-
-place-of-requires : tie.Need-place-of-requires Inv-loop μ-loop
-place-of-requires c κs = search needs
-
-cast-fill-row : tie.Need-cast-fill-row Inv-loop μ-loop
-cast-fill-row c = search needs
 
 add-fill-row : tie.Need-add-fill-row Inv-loop μ-loop
 add-fill-row c = search needs
@@ -88,24 +89,26 @@ part-fill-row-end c = search needs
 fill-row-requires : tie.Need-fill-row-requires Inv-loop μ-loop
 fill-row-requires c κs = search needs
 
-add-b : tie.Need-add-b Inv-loop μ-loop
-add-b c = search needs
+add-x : tie.Need-add-x Inv-loop μ-loop
+add-x c = search needs
 
 loop-less : tie.Need-loop-less Inv-loop μ-loop
 loop-less c = search needs
 
 loop-again : tie.Need-loop-again Inv-loop μ-loop
 loop-again c =
-    let l = c .before .before .before .before .before .before in
+    let w = c .before .before in
+    let l = w .before .before in
     let p = l .before .before .before .before .before .pre in
-    rows-turned _ _ _ _ _ _ _ _ _ _ _ (p .few) (p .long) (l .loop .inv) (omega arith)
-    (c .before .before .before .before .place-of .ensures) (c .before .before .fill-row .ensures)
+    rows-turned _ _ _ _ _ _ _ (l .before .loop .inv) (p .0) (p .1) (l .loop-test .taken) (w .fill-row .ensures)
 
 same-length : tie.Need-same-length Inv-loop μ-loop
 same-length c = search needs
 
 returns : tie.Need-returns Inv-loop μ-loop
-returns c = record { leg = λ p b h l. c .before .loop .inv .rows .leg p b h (omega arith) }
+returns c =
+    let f = c .before .loop .inv .done in
+    record { metres = λ p x h lt. f .metres p x h (omega arith); free = f .free; rows = f .rows }
 
 pub fill-rows-spec : {M : Type 1} → statement M
 fill-rows-spec =
@@ -115,16 +118,15 @@ fill-rows-spec =
     μ-loop
     add-stops
     loop-holds
+    add-at
     mul-at
-    place-of-requires
-    cast-fill-row
     add-fill-row
     mul-fill-row
     sub-fill-row
     part-fill-row-start
     part-fill-row-end
     fill-row-requires
-    add-b
+    add-x
     loop-less
     loop-again
     same-length

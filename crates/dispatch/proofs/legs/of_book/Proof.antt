@@ -1,5 +1,4 @@
 -- `dispatch::legs::of_book` meets its contract: the parts lent of a book's arrays are those within its counts. Assumes nothing.
-use Prim.Native.Nat.{zero-le}
 use mathlib.Core.Path.{sym, _∙_}
 use borrow.Author.Needs.{needs}
 use native.Mathlib.Omega.{arith}
@@ -11,7 +10,7 @@ abbrev start : tie.After-stands → tie.Start
 start c = c .before .before .before .before
 
 fits : (c : tie.After-stands) → Fits (start c .args .book)
-fits c = fit (record { starts = search needs; stands = search needs; requests = search needs; driven = search needs }) (start c .pre .0) (start c .pre .1 .0)
+fits c = fit (record { starts = search needs; stands = search needs; requests = search needs; driven = search needs }) (start c .pre .cranes) (start c .pre .calls)
 
 array-share-prefix-starts : tie.Need-array-share-prefix-starts
 array-share-prefix-starts c = fits c .starts
@@ -35,7 +34,14 @@ fill-requires : tie.Need-fill-requires
 fill-requires c κs =
     let s = c .before .before .before .before in
     let f = fits s in
-    record { aligned = stands-long f ∙ sym (starts-long f); first = zero-le; few = rw (stops-long f) (omega (arith, start s .pre)); long = search needs }
+    let p = start s .pre in
+    record {
+      aligned = stands-long f ∙ sym (starts-long f);
+      few = rw (stops-long f) (omega arith);
+      stood = p .stood;
+      called = p .called;
+      costed = p .costed;
+    }
 
 same-length : tie.Need-same-length
 same-length c = search needs

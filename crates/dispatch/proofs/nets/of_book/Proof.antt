@@ -1,23 +1,24 @@
 -- `dispatch::nets::of_book` meets its contract: the book is a day under way, and the search for the call tells w and the drive of every
 -- crane. Assumes nothing.
-use Prim.Native.Nat.{ℕ, _*_, _<_, _≤_}
+use Prim.Native.Nat.{ℕ, _<_}
 use mathlib.Core.List.{List}
 use mathlib.Core.Path.{_≡_, sym}
 use borrow.Author.Needs.{needs}
 use lib.ListN.{length}
+use native.Mathlib.Nat.{le-trans}
 use native.Mathlib.Omega.{arith}
-use Rattle.road.specs.Table.{Table, metresOf, entry}
+use Rattle.road.specs.Table.{Table, mostPlaces, metresOf, entry}
 use Rattle.dayfile.specs.Day.{mostCalls}
 use Rattle.book.specs.Book.{mostStops, startsOf, standsOf, requestsOf, BookArrays}
-use Rattle.book.proofs.Sound.{Fits, starts-long, stands-long, requests-long, sound-fits}
+use Rattle.book.proofs.Sound.{Fits, starts-long, requests-long, sound-fits}
 use Rattle.dispatch.specs.Insertion.{Kept}
 use Rattle.dispatch.specs.Legs.{LegTable}
 use Rattle.dispatch.specs.Quote.{quoteRefusal}
-use Rattle.dispatch.proofs.Answered.{kept-read, kept-few, kept-witnessed}
+use Rattle.dispatch.proofs.Answered.{kept-witnessed}
 use Rattle.dispatch.proofs.Called.{Called, quote-called}
-use Rattle.dispatch.proofs.Carried.{sound-kept}
+use Rattle.dispatch.proofs.Carried.{sound-given, sound-kept}
 use Rattle.dispatch.proofs.Roads.{sound-roads}
-use Rattle.dispatch.proofs.nets.Laws.{book-netted}
+use Rattle.dispatch.proofs.nets.Laws.{call-last, book-netted}
 use Rattle.dispatch.proofs.nets.of_book.Statement.{statement}
 use Rattle.dispatch.proofs.nets.of_book.Tie as tie
 
@@ -42,11 +43,11 @@ fits : (s : tie.Start) → Fits (s .args .book)
 fits s = sound-fits (arrays s) (called s .sound)
 
 -- the book is a day under way
-kept : {costs : List ℕ} (s : tie.Start) (n : ℕ) → quoteRefusal (s .args .book) n (table s) (s .args .place) ≡ 0 → mostStops * mostStops ≤ length costs
-    → LegTable (entry (metresOf (table s))) (startsOf (s .args .book)) (requestsOf (s .args .book)) (standsOf (s .args .book)) costs
+kept : {costs : List ℕ} (s : tie.Start) (n : ℕ) → quoteRefusal (s .args .book) n (table s) (s .args .place) ≡ 0
+    → LegTable mostPlaces (entry (metresOf (table s))) (startsOf (s .args .book)) (requestsOf (s .args .book)) (standsOf (s .args .book)) costs
     → let b = s .args .book in Kept n (metresOf (table s)) (startsOf b) (requestsOf b) (standsOf b) (b .plan) (b .weights) costs
-kept s n h long legs =
-    sound-kept (arrays s) (quote-called h .sound) (omega (arith, plan-long s)) (omega (arith, weights-long s)) long legs
+kept s n h legs =
+    sound-kept (arrays s) (quote-called h .sound) (omega (arith, plan-long s)) (omega (arith, weights-long s)) legs
 
 -- there is room for the call
 room : (s : tie.Start) → length (requestsOf (s .args .book)) < mostCalls
@@ -54,52 +55,28 @@ room s = rw (requests-long (fits s)) (called s .space)
 
 -- the places of the calls and the entry, each from a place after it
 abbrev begun : tie.After-of-book → tie.Start
-begun f = f .before .before .before .before .before .before .before .before .before .before
+begun f = f .before .before .before .before .before .before .before
 
 abbrev extended : tie.After-weights2 → tie.After-extend
 extended c = c .before .before .before .before
 
 abbrev filled : tie.After-extend → tie.After-of-book
-filled e = e .before .before .before .before .before .before .before
+filled e = e .before .before .before .before
 
 add-new : tie.Need-add-new
 add-new c = let k = called (c .before .before .before) .sound .counts in omega arith
 
 of-book-requires : tie.Need-of-book-requires
 of-book-requires c κs =
-    let s = c .before .before .before .before .before .before .before .before .before in
-    let k = called s .sound .counts in
-    (k .cranes, (k .calls, s .pre .costed))
-
-array-share-prefix-starts : tie.Need-array-share-prefix-starts
-array-share-prefix-starts c = fits (begun (c .before .before)) .starts
-
-slice-aggregate-extend : tie.Need-slice-aggregate-extend
-slice-aggregate-extend c = sym (starts-long (fits (begun (c .before .before .before))))
-
-array-share-prefix-requests : tie.Need-array-share-prefix-requests
-array-share-prefix-requests c = fits (begun (c .before .before .before)) .requests
-
-slice-aggregate-extend-2 : tie.Need-slice-aggregate-extend-2
-slice-aggregate-extend-2 c = sym (requests-long (fits (begun (c .before .before .before .before))))
-
-array-share-prefix-stands : tie.Need-array-share-prefix-stands
-array-share-prefix-stands c = fits (begun (c .before .before .before .before)) .stands
-
-slice-aggregate-extend-3 : tie.Need-slice-aggregate-extend-3
-slice-aggregate-extend-3 c = sym (stands-long (fits (begun (c .before .before .before .before .before))))
+    let s = c .before .before .before .before .before .before in
+    sound-given (arrays s) (called s .sound) (s .pre .costed)
 
 extend-requires : tie.Need-extend-requires
 extend-requires c κs =
-    let f = c .before .before .before .before .before .before in
+    let f = c .before .before .before in
     let s = begun f in
-    let day = kept s (s .pre .places) (s .pre .accepted) (search needs) (f .of-book .ensures) in
-    record {
-      aligned = day .standing .cranes;
-      few = kept-few day (room s);
-      long = search needs;
-      table = kept-read (sound-roads (called s .sound)) day;
-    }
+    let k = called s .sound .counts in
+    (omega (arith, called s .space), (le-trans (called s .on) (k .places), f .of-book .ensures .costed))
 
 slice-aggregate-find : tie.Need-slice-aggregate-find
 slice-aggregate-find c = sym (weights-long (begun (filled (extended c))))
@@ -125,15 +102,15 @@ find-requires c κs =
     let f = filled e in
     let s = begun f in
     let k = called s .sound .counts in
-    let day = kept s (s .pre .places) (s .pre .accepted) (search needs) (f .of-book .ensures) in
-    let w = kept-witnessed (sound-roads (called s .sound)) day (room s) (called s .on) (e .extend .ensures) in
+    let day = kept s (s .pre .places) (s .pre .accepted) (f .of-book .ensures) in
+    let w = kept-witnessed (sound-roads (called s .sound)) day (room s) (called s .on) (call-last (arrays s) (called s) (e .extend .ensures)) in
     record {
       cranes = omega arith;
       netted = omega (arith, s .pre .netted);
       freed = omega (arith, k .cranes);
       sized = record {
         planned = omega (arith, plan-long s, called s .space);
-        costed = search needs;
+        costed = e .extend .ensures .costed;
         totalled = omega (arith, called s .space);
         parented = omega (arith, called s .space);
         ranked = omega (arith, called s .space);
@@ -153,7 +130,7 @@ returns c = λ n h.
     let e = extended (g .before .before .before .before .before .before .before) in
     let f = filled e in
     let s = begun f in
-    let day = kept s n h (search needs) (f .of-book .ensures) in
+    let day = kept s n h (f .of-book .ensures) in
     book-netted (arrays s) (quote-called h) day (e .extend .ensures) (g .find .ensures .0) (g .find .ensures .1)
 
 pub of-book-spec : {M : Type 1} → statement M
@@ -162,12 +139,6 @@ of-book-spec =
     (tie.spec
     add-new
     of-book-requires
-    array-share-prefix-starts
-    slice-aggregate-extend
-    array-share-prefix-requests
-    slice-aggregate-extend-2
-    array-share-prefix-stands
-    slice-aggregate-extend-3
     extend-requires
     slice-aggregate-find
     slice-aggregate-find-2

@@ -52,7 +52,7 @@ cast-cost c = omega (arith, c .shared-slice-known3 .given (c .before .before .lo
 cost-requires : tie.Need-cost-requires Inv-loop μ-loop
 cost-requires c κs =
     let p = c .before .before .before .before .before .pre in
-    (omega (arith, p .few), (omega (arith, p .few, p .below _ (c .before .loop-test .taken)), p .long))
+    (omega (arith, p .few), (omega (arith, p .few, p .below _ (c .before .loop-test .taken)), p .costed))
 
 cast-sum : tie.Need-cast-sum Inv-loop μ-loop
 cast-sum c = search needs

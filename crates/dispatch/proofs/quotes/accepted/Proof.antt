@@ -70,7 +70,7 @@ slice-aggregate-of-book-2 c = search needs
 of-book-requires : tie.Need-of-book-requires
 of-book-requires c κs =
     let s = c .before .before .before .before .before in
-    record { places = s .pre .0; accepted = s .pre .1; netted = search needs; costed = search needs }
+    record { places = s .pre .0; accepted = s .pre .1; netted = search needs; costed = c .before .before .zeros .ensures .costed }
 
 slice-aggregate-choose : tie.Need-slice-aggregate-choose
 slice-aggregate-choose c = search needs
@@ -88,7 +88,7 @@ choose-requires c κs =
       cranes = k .cranes;
       few = omega (arith, called s .space);
       netted = omega (arith, f .of-book .kept, k .cranes);
-      costed = search needs;
+      costed = f .of-book .ensures _ (s .pre .1) .costed;
       low = f .of-book .ensures _ (s .pre .1) .low;
     }
 
@@ -100,12 +100,13 @@ slice-aggregate-cost-2 c = search needs
 
 cost-requires : tie.Need-cost-requires
 cost-requires c κs =
-    let s = begun (netted (c .before .before)) in
+    let f = netted (c .before .before) in
+    let s = begun f in
     let k = called s .sound .counts in
     record {
       few = omega arith;
       planned = omega (arith, plan-long s);
-      long = search needs;
+      costed = f .of-book .ensures _ (s .pre .1) .costed;
       below = plan-facts _ _ _ (called s .sound .plan) .below;
     }
 
@@ -115,8 +116,11 @@ slice-aggregate-cost-3 c = search needs
 cost-requires-2 : tie.Need-cost-requires-2
 cost-requires-2 c κs =
     let m = c .before .before .before .before in
-    let s = begun (netted m) in
-    (omega (arith, called s .sound .counts .cranes, called s .space), (omega (arith, sent-low m), search needs))
+    let f = netted m in
+    let s = begun f in (
+      omega (arith, called s .sound .counts .cranes, called s .space),
+      (omega (arith, sent-low m), f .of-book .ensures _ (s .pre .1) .costed),
+    )
 
 mul-t28 : tie.Need-mul-t28
 mul-t28 c = omega (arith, sent-low (chosen c))

@@ -1,18 +1,18 @@
 -- `dispatch::search::settle` meets its contract: the row lent to `relax` holds the legs to the stop's follower, as far as that
 -- follower reaches. Assumes nothing.
-use Prim.Native.Nat.{ℕ, _+_, _*_, _<_, _≤_}
+use Prim.Native.Nat.{ℕ, _<_}
 use mathlib.Core.List.{List}
 use mathlib.Core.Logic.{_⊎_, inl, inr}
-use mathlib.Core.Path.{_≡_, _∙_}
+use mathlib.Core.Path.{_≡_, ap}
 use borrow.Author.Needs.{needs}
 use lib.ListN.{length}
 use native.Mathlib.Nat.{le-of-lt}
 use native.Mathlib.Omega.{arith}
-use Rattle.book.specs.Book.{mostStops, follower}
+use Rattle.base.specs.Lists.{upTo}
+use Rattle.base.proofs.Lists.{length-upTo, getD-upTo}
 use Rattle.dispatch.specs.Legs.{legAt}
 use Rattle.dispatch.specs.Search.{at, Unbettered, Bettered, Relaxed}
 use Rattle.dispatch.proofs.search.Laws.{reach-most}
-use Rattle.dispatch.proofs.search.Lent.{lent, length-lent, lent-at}
 use Rattle.dispatch.proofs.search.settle.Statement.{statement}
 use Rattle.dispatch.proofs.search.settle.Tie as tie
 
@@ -31,12 +31,12 @@ module _ {limit net from : ℕ} {total parent total' parent' : ℕ → ℕ} wher
         parented = h .parented;
       })
 
-lent-row : (costs : List ℕ) (b l : ℕ) {m net net' from : ℕ} {total parent total' parent' : ℕ → ℕ} → mostStops * b + l ≤ length costs → l ≡ m → net ≡ net'
-    → Relaxed (length (lent costs b (mostStops * b + l))) net from (at (lent costs b (mostStops * b + l))) total parent total' parent'
+row-worked : {row : List ℕ} (costs : List ℕ) (b l : ℕ) {m net net' from : ℕ} {total parent total' parent' : ℕ → ℕ}
+    → row ≡ upTo l (λ p. legAt costs p b) → l ≡ m → net ≡ net' → Relaxed (length row) net from (at row) total parent total' parent'
     → Relaxed m net' from (λ p. legAt costs p b) total parent total' parent'
-lent-row costs b l fits e f r =
-    let long : length (lent costs b (mostStops * b + l)) ≡ l = length-lent costs b (mostStops * b + l) fits ∙ omega arith in
-    rw (← e, ← f) (same-row (at (lent costs b (mostStops * b + l))) (λ p. legAt costs p b) (λ p lt. lent-at costs b (mostStops * b + l) p (omega arith)) (rw long at r))
+row-worked {row} costs b l same e f r =
+    let long : length row ≡ l = rw same (length-upTo l _) in
+    rw (← e, ← f) (same-row (at row) (λ p. legAt costs p b) (λ p lt. rw same (getD-upTo l _ p 0 lt)) (rw long at r))
 
 mul-b : tie.Need-mul-b
 mul-b c = search needs
@@ -62,37 +62,23 @@ cast-net c = search needs
 sub-net : tie.Need-sub-net
 sub-net c = search needs
 
-mul-row : tie.Need-mul-row
-mul-row c = search needs
-
 limit-requires : tie.Need-limit-requires
 limit-requires c κs = search needs
 
-add-end : tie.Need-add-end
-add-end c =
+row-to-requires : tie.Need-row-to-requires
+row-to-requires c κs =
     let a = c .before .before .before .before .before .before .before .before in
-    omega (arith, c .limit .ensures, reach-most (a .args .cranes) (a .args .new) _ (le-of-lt (a .pre .follows)))
-
-mul-relax : tie.Need-mul-relax
-mul-relax c = search needs
-
-sub-relax : tie.Need-sub-relax
-sub-relax c = search needs
-
-part-relax-start : tie.Need-part-relax-start
-part-relax-start c = search needs
-
-part-relax-end : tie.Need-part-relax-end
-part-relax-end c =
-    let a = c .before .before .before .before .before .before .before .before in
-    omega (arith, c .limit .ensures, reach-most (a .args .cranes) (a .args .new) _ (le-of-lt (a .pre .follows)))
+    let p = a .pre in (
+      omega (arith, c .limit .ensures, reach-most (a .args .cranes) (a .args .new) _ (le-of-lt (p .follows)), p .few),
+      (omega (arith, p .follows, p .few), p .costed),
+    )
 
 relax-requires : tie.Need-relax-requires
 relax-requires c κs =
-    let m = c .before .before .before in
+    let w = c .before .before in
+    let m = w .before in
     let a = m .before .before .before .before .before .before .before .before in
-    let b = follower (a .args .plan .now) (a .args .q) in
-    let long = length-lent (a .args .costs .now) b (mostStops * b + m .limit .result) (part-relax-end m) in
+    let long = simp length-upTo at (ap length (w .row-to .ensures)) in
     let most = reach-most (a .args .cranes) (a .args .new) _ (le-of-lt (a .pre .follows)) in
     let e = m .limit .ensures in
     let p = a .pre in
@@ -107,8 +93,9 @@ same-length-2 c = search needs
 returns : tie.Need-returns
 returns c =
     let r = c .before .before .before .before in
-    let m = r .before .before .before .before in
-    lent-row _ _ (m .limit .result) (part-relax-end m) (m .limit .ensures) (rw (m .before .cost .ensures)) (r .relax .ensures)
+    let w = r .before .before .before in
+    let m = w .before in
+    row-worked _ _ _ (w .row-to .ensures) (m .limit .ensures) (rw (m .before .cost .ensures)) (r .relax .ensures)
 
 pub settle-spec : {M : Type 1} → statement M
 settle-spec =
@@ -122,13 +109,8 @@ settle-spec =
     cost-requires
     cast-net
     sub-net
-    mul-row
     limit-requires
-    add-end
-    mul-relax
-    sub-relax
-    part-relax-start
-    part-relax-end
+    row-to-requires
     relax-requires
     same-length
     same-length-2

@@ -5,16 +5,17 @@ use borrow.Author.Needs.{needs}
 use lib.ListN.{length}
 use native.Mathlib.Nat.{le-trans}
 use native.Mathlib.Omega.{arith}
+use Rattle.road.specs.Table.{mostPlaces}
 use Rattle.dayfile.specs.Day.{mostCranes}
 use Rattle.workfunction.specs.Plan.{stops}
 use Rattle.book.specs.Book.{mostStops}
-use Rattle.dispatch.proofs.Answered.{kept-read, kept-few, kept-witnessed, served-below, call-answered, unmoved-set}
+use Rattle.dispatch.proofs.Answered.{kept-few, kept-witnessed, served-below, call-answered, unmoved-set}
 use Rattle.dispatch.proofs.serve.serve_call.Statement.{statement}
 use Rattle.dispatch.proofs.serve.serve_call.Tie as tie
 
 -- from the call of `extend` back to where the function begins, and from that of `insert` to that of `extend`
 abbrev begun : tie.After-extend → tie.Start
-begun e = e .before .before .before .before .before .before .before .before
+begun e = e .before .before .before .before .before .before .before
 
 abbrev extended : tie.After-insert → tie.After-extend
 extended i = i .before .before .before .before .before .before
@@ -22,6 +23,10 @@ extended i = i .before .before .before .before .before .before
 -- there is room for the call
 room : (a : tie.Start) → stops (a .args .starts .now) (a .args .calls .now) < mostStops
 room a = kept-few (a .pre .kept) (a .pre .space)
+
+-- the call is at a place that has a row
+on-road : (a : tie.Start) → a .args .place < mostPlaces
+on-road a = le-trans (a .pre .on) (a .pre .roads .few)
 
 -- the crane sent is one of the cranes
 sent : (i : tie.After-insert) → i .insert .result < length (begun (extended i) .args .starts .now)
@@ -38,9 +43,8 @@ add-new c = search needs
 
 extend-requires : tie.Need-extend-requires
 extend-requires c κs =
-    let a = c .before .before .before .before .before .before .before in
-    let k = a .pre .kept in
-    record { aligned = k .standing .cranes; few = room a; long = k .costsLong; table = kept-read (a .pre .roads) k }
+    let a = c .before .before .before .before .before .before in
+    (room a, (on-road a, a .pre .kept .table .costed))
 
 insert-requires : tie.Need-insert-requires
 insert-requires c κs =
@@ -54,7 +58,7 @@ insert-requires c κs =
       ends = p .ends;
       planLong = k .planLong;
       weightsLong = k .weightsLong;
-      costsLong = search needs;
+      costed = e .extend .ensures .costed;
       witnessed = kept-witnessed (p .roads) k (p .space) (p .on) (e .extend .ensures);
     }
 
@@ -91,17 +95,11 @@ slice-set-of-weights c =
     let long = begun (extended i) .pre .kept .weightsLong in
     search needs
 
-add-copy-row : tie.Need-add-copy-row
-add-copy-row c = search needs
-
-copy-row-requires : tie.Need-copy-row-requires
-copy-row-requires c κs =
+put-requires : tie.Need-put-requires
+put-requires c κs =
     let i = c .before .before .before .before .before .before in
-    let a = begun (extended i) in
-    let few = room a in
-    let low = sent-low i in
-    let long = a .pre .kept .costsLong in
-    record { few = omega arith; source = omega arith; target = omega arith; long = search needs }
+    let e = extended i in
+    (omega (arith, sent-low i), (on-road (begun e), e .extend .ensures .costed))
 
 add-cost : tie.Need-add-cost
 add-cost c =
@@ -115,11 +113,10 @@ cost-requires c κs =
     let p = begun e .pre in
     let few = room (begun e) in
     let planned = p .kept .planLong in
-    let costed = p .kept .costsLong in
     record {
       few = omega arith;
       planned = search needs;
-      long = search needs;
+      costed = c .before .before .before .before .put .ensures .costed;
       below = served-below (p .roads) (p .kept) (p .space) (p .on) (e .extend .ensures) (i .insert .ensures .taken);
     }
 
@@ -147,10 +144,10 @@ returns c =
     record {
       answered = λ n d roads kept asked.
           call-answered roads kept (a .pre .space) asked (e .extend .ensures)
-          (i .insert .last .1 .1 .1 .1 .0) (i .insert .last .1 .1 .1 .1 .1 .0) (w .copy-row .last .1 .1 .1 .0)
-          (taken .taken) (w .copy-row .ensures)
+          (i .insert .last .1 .1 .1 .1 .0) (i .insert .last .1 .1 .1 .1 .1 .0) (w .put .last .1 .1 .0)
+          (taken .taken) (w .put .ensures)
           (omega (arith, i .insert .kept, k .planLong)) (omega (arith, i .insert .kept, k .weightsLong))
-          (omega (arith, w .copy-row .kept, e .extend .kept, k .costsLong)) (taken .chosen) (m .metres .ensures) (c .cost .ensures);
+          (taken .chosen) (m .metres .ensures) (c .cost .ensures);
       unmoved = unmoved-set (i .insert .result) (omega (arith, sent i)) (taken .unmoved);
     }
 
@@ -169,8 +166,7 @@ serve-call-spec =
     slice-write-stands
     mul-weights
     slice-set-of-weights
-    add-copy-row
-    copy-row-requires
+    put-requires
     add-cost
     cost-requires
     same-length

@@ -1,0 +1,61 @@
+-- `dispatch::legs::put` meets its contract: one number of the last row is written. Assumes nothing.
+use Prim.Native.Nat.{ℕ, _+_, _*_, _<_, _≤_}
+use mathlib.Core.List.{List}
+use mathlib.Core.Path.{_≡_}
+use borrow.Author.Needs.{needs}
+use lib.ListN.{set, length-set}
+use lib.Seq.{getD-set-same, getD-set-other}
+use native.Mathlib.Decide.{ℕ-discrete}
+use native.Mathlib.Omega.{arith}
+use Rattle.road.specs.Table.{mostPlaces}
+use Rattle.book.specs.Book.{mostStops}
+use Rattle.dispatch.specs.Legs.{cell, rowOf, Costed, FollowerPut}
+use Rattle.dispatch.proofs.legs.put.Statement.{statement}
+use Rattle.dispatch.proofs.legs.put.Tie as tie
+
+module _ (b r : ℕ) (costs : List ℕ) (follower : b < mostStops) (on : r < mostPlaces) (k : Costed costs) where
+  abbrev index : ℕ
+  index = mostStops * (mostPlaces + 1) + b
+
+  own : rowOf (set costs index (r + 1)) b ≡ r + 1
+  unfolding cell rowOf
+  own = let long = k .long in getD-set-same costs index (r + 1) 0 (omega arith)
+
+  other : (a : ℕ) → (a ≡ b → ⊥) → rowOf (set costs index (r + 1)) a ≡ rowOf costs a
+  unfolding cell rowOf
+  other a away =
+      getD-set-other costs index (mostStops * (mostPlaces + 1) + a) (r + 1) 0 (λ (e : mostStops * (mostPlaces + 1) + a ≡ index). away (omega arith))
+
+  follower-put : FollowerPut b r costs (set costs index (r + 1))
+  unfolding cell
+  follower-put = record {
+    costed = record { long = rw length-set (k .long); rows = λ a h. either a h (ℕ-discrete a b) };
+    row = own;
+    others = other;
+    cells = λ i p le lt. getD-set-other costs index (mostStops * i + p) (r + 1) 0 (λ (e : mostStops * i + p ≡ index). omega arith);
+  }
+    where
+      either : (a : ℕ) → a < mostStops → Dec (a ≡ b) → rowOf (set costs index (r + 1)) a ≤ mostPlaces
+      either a h (yes e) = rw (e, own) (omega arith)
+      either a h (no away) = rw (other a away) (k .rows a h)
+
+add-costs : tie.Need-add-costs
+add-costs c = search needs
+
+add-costs-2 : tie.Need-add-costs-2
+add-costs-2 c = search needs
+
+mul-costs : tie.Need-mul-costs
+mul-costs c = search needs
+
+slice-write-costs : tie.Need-slice-write-costs
+slice-write-costs c = search needs
+
+same-length : tie.Need-same-length
+same-length c = search needs
+
+returns : tie.Need-returns
+returns c = follower-put _ _ _ (c .pre .0) (c .pre .1 .0) (c .pre .1 .1)
+
+pub put-spec : {M : Type 1} → statement M
+put-spec = tie.close (tie.spec add-costs add-costs-2 mul-costs slice-write-costs same-length returns)
