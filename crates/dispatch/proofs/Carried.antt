@@ -69,7 +69,7 @@ rule-of : (n : ℕ) (l : List ℕ) → ((r : ℕ) → List·Memᴰ r l → r < n
 rule-of n l placed = below-all _ (length l) (λ i h. lt-ltb (getD l i 0) n (placed _ (entry-in l i h)))
 
 -- a day under way is that of a sound book
-kept-sound : {book : Book} {n : ℕ} {t : Table} {costs : List ℕ} → Fits book → CountsTested n (book .cranes) (book .calls) → Surveyed n t
+kept-sound : {book : Book} {n : ℕ} {t : Table} {costs : List ℕ} → Fits book → CountsTested n (length t) (book .cranes) (book .calls) → Surveyed n t
     → Kept n (metresOf t) (startsOf book) (requestsOf book) (standsOf book) (book .plan) (book .weights) costs
     → drivenRule (mostMetres * book .calls) (drivenOf book) ≡ true → Sound book n t
 kept-sound {n = n} fits counts surveyed k driven = let c = rw (starts-long fits, requests-long fits) at (k .certified) in record {
@@ -168,8 +168,8 @@ module _ {book : Book} {n : ℕ} {t : Table} (arrays : BookArrays book) (s : Sou
   unfolding bookAfter
   after-sound =
       let k = s .counts in
-      let counts : CountsTested n (book .cranes) (book .calls + 1) =
-      record { place = k .place; places = k .places; crane = k .crane; cranes = k .cranes; calls = omega arith }
+      let counts : CountsTested n (length t) (book .cranes) (book .calls + 1) =
+      record { place = k .place; places = k .places; legs = k .legs; crane = k .crane; cranes = k .cranes; calls = omega arith }
       in
       let added = after-added (told .crane) r (told .metres) plan weights fits sent room in
       sound-book (kept-sound {costs = costs} (after-fits (told .crane) r (told .metres) plan weights fits sent room) counts (s .surveyed)

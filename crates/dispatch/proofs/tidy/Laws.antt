@@ -86,7 +86,7 @@ module _ (book : Book) {tidy : Book} (e : tidy ≡ tidied book) where
       })
 
   pub tidy-refusal : Fits book → (n : ℕ) (t : Table) → bookRefusal tidy n t ≡ bookRefusal book n t
-  tidy-refusal fits n t = past-counts-ignored tidy book n t t (tidy-same fits) (λ u v p q. refl)
+  tidy-refusal fits n t = past-counts-ignored tidy book n t (tidy-same fits)
 
   pub tidy-plan : (p : ℕ) → stopsOf tidy ≤ p → follower (tidy .plan) p ≡ 0
   unfolding tidied

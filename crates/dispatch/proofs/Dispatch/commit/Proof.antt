@@ -25,8 +25,8 @@ module _ (book : Book) (n : ℕ) (t : Table) (r s : ℕ) (o : Committed) (plan :
   accepted h e = rw h e
 
 -- what the test tells once it accepted
-tested : (c : tie.After-enum-told) → let a = c .before .before .before .args in
-    commitRefusal (a .book) (a .places) (a .t3) (a .place) (a .crane) ≡ 0
+tested : (c : tie.After-enum-told) → let a = c .before .before .before .before .args in
+    commitRefusal (a .book) (a .places) (a .table .now) (a .place) (a .crane) ≡ 0
 tested c = accepts _ _ (c .enum-told .given .1) (c .before .before .test .ensures)
 
 test-requires : tie.Need-test-requires
@@ -48,11 +48,11 @@ returns c =
     refused _ _ _ _ _ _ _ _ _ (t .before .before .test .ensures) (refused-number _ (e .0 .0) (e .1)) (c .refused .ensures)
 
 accepted-requires : tie.Need-accepted-requires
-accepted-requires c κs = (_, tested (c .before))
+accepted-requires c κs = (_, tested c)
 
 returns-2 : tie.Need-returns-2
 returns-2 c =
-    let h = tested (c .before .before) in
+    let h = tested (c .before) in
     let e = c .accepted .ensures _ h in
     (accepted _ _ _ _ _ _ _ _ h (e .0), λ z. e .1)
 

@@ -24,7 +24,7 @@ unfolding costsOf
 told book n t l f sound least low = rw (sound, least, low)
 
 -- what the test of the book tells once it accepted
-tested : (c : tie.After-enum-told) → let a = c .before .before .before .args in bookRefusal (a .book) (a .places) (a .t3) ≡ 0
+tested : (c : tie.After-enum-told) → let a = c .before .before .before .before .args in bookRefusal (a .book) (a .places) (a .table .now) ≡ 0
 tested c = accepts _ _ (c .enum-told .given .1) (c .before .before .test .ensures)
 
 test-requires : tie.Need-test-requires
@@ -42,15 +42,15 @@ returns c =
     refused _ _ _ _ (c .before .before .test .ensures) (refused-number _ (e .0 .0) (e .1))
 
 least-requires : tie.Need-least-requires
-least-requires c κs = (_, tested (c .before))
+least-requires c κs = (_, tested c)
 
 floor-requires : tie.Need-floor-requires
-floor-requires c κs = (_, tested (c .before .before .before))
+floor-requires c κs = (_, tested (c .before))
 
 returns-2 : tie.Need-returns-2
 returns-2 c =
-    let l = c .before .before in
-    let t = l .before .before in
+    let l = c .before in
+    let t = l .before in
     told _ _ _ _ _ (tested t) (l .least .ensures _ (tested t)) (c .floor .ensures _ (tested t))
 
 pub costs-spec : {M : Type 1} → statement M

@@ -23,7 +23,7 @@ module _ (book : Book) (n : ℕ) (t : Table) (r : ℕ) where
   accepted h = rw h
 
 -- what the test tells once it accepted
-tested : (c : tie.After-enum-told) → let a = c .before .before .before .args in quoteRefusal (a .book) (a .places) (a .t3) (a .place) ≡ 0
+tested : (c : tie.After-enum-told) → let a = c .before .before .before .before .args in quoteRefusal (a .book) (a .places) (a .table .now) (a .place) ≡ 0
 tested c = accepts _ _ (c .enum-told .given .1) (c .before .before .test .ensures)
 
 test-requires : tie.Need-test-requires
@@ -45,10 +45,10 @@ returns c =
     c .refused .ensures ∙ refused _ _ _ _ _ (t .before .before .test .ensures) (refused-number _ (e .0 .0) (e .1))
 
 accepted-requires : tie.Need-accepted-requires
-accepted-requires c κs = (_, tested (c .before))
+accepted-requires c κs = (_, tested c)
 
 returns-2 : tie.Need-returns-2
-returns-2 c = let h = tested (c .before .before) in c .accepted .ensures _ h ∙ accepted _ _ _ _ h
+returns-2 c = let h = tested (c .before) in c .accepted .ensures _ h ∙ accepted _ _ _ _ h
 
 pub net-costs-spec : {M : Type 1} → statement M
 net-costs-spec =

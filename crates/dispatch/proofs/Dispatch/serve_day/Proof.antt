@@ -33,11 +33,11 @@ unfolding servedDay
 refused day t n e h = rw (← e) (zeros-told n _ noFigures h)
 
 -- the number of the opening
-number : (f : tie.After-fresh) → let a = f .before .args in numberOf (f .fresh .result .verdict) ≡ dayRefusal (a .day) (a .t2)
+number : (f : tie.After-fresh) → let a = f .before .before .args in numberOf (f .fresh .result .verdict) ≡ dayRefusal (a .day) (a .table .now)
 number f = opened-number _ _ _ (f .fresh .ensures)
 
 -- what the test of the day tells once it accepted
-tested : (c : tie.After-enum-told) → let a = c .before .before .before .args in dayRefusal (a .day) (a .t2) ≡ 0
+tested : (c : tie.After-enum-told) → let a = c .before .before .before .before .args in dayRefusal (a .day) (a .table .now) ≡ 0
 tested c = accepts _ _ (c .enum-told .given .1) (number (c .before .before))
 
 fresh-requires : tie.Need-fresh-requires
@@ -60,8 +60,7 @@ returns c =
 
 served-requires : tie.Need-served-requires
 served-requires c κs =
-    let t = c .before in
-    (tested t, opened-book _ _ _ (t .before .before .fresh .ensures) (tested t))
+    (tested c, opened-book _ _ _ (c .before .before .fresh .ensures) (tested c))
 
 returns-2 : tie.Need-returns-2
 returns-2 c = c .served .ensures

@@ -48,12 +48,12 @@ plan-long t = search needs
 weights-long : (t : tie.After-tidy) → length (tidy t .weights) ≡ mostStops
 weights-long t = search needs
 
-same : (t : tie.After-tidy) (n : ℕ) → Accepted (t .before) n → SameBook (tidy t) (t .before .args .book)
-same t n h = tidy-same _ (t .tidy .ensures) (fits (t .before) n h)
+same : (t : tie.After-tidy) (n : ℕ) → Accepted (t .before .before) n → SameBook (tidy t) (t .before .before .args .book)
+same t n h = tidy-same _ (t .tidy .ensures) (fits (t .before .before) n h)
 
-tested : (t : tie.After-tidy) (n : ℕ) → let s = t .before in Accepted s n → Called (tidy t) n (table s) (s .args .place)
+tested : (t : tie.After-tidy) (n : ℕ) → let s = t .before .before in Accepted s n → Called (tidy t) n (table s) (s .args .place)
 tested t n h =
-    let s = t .before in
+    let s = t .before .before in
     let c = commit-called h .0 in
     record {
       sound = book-sound (rw (tidy-refusal _ (t .tidy .ensures) (fits s n h) n (table s)) (sound-book (c .sound)));
@@ -61,14 +61,14 @@ tested t n h =
       space = rw (same t n h .calls) (c .space);
     }
 
-tested-so : (t : tie.After-tidy) → let s = t .before in Called (tidy t) (s .pre .0) (table s) (s .args .place)
-tested-so t = let s = t .before in tested t (s .pre .0) (s .pre .1)
+tested-so : (t : tie.After-tidy) → let s = t .before .before in Called (tidy t) (s .pre .0) (table s) (s .args .place)
+tested-so t = let s = t .before .before in tested t (s .pre .0) (s .pre .1)
 
 tidy-fits : (t : tie.After-tidy) → Fits (tidy t)
 tidy-fits t = sound-fits (arrays t) (tested-so t .sound)
 
 -- it is a day under way
-kept : {costs : List ℕ} (t : tie.After-tidy) (n : ℕ) → let s = t .before in Accepted s n
+kept : {costs : List ℕ} (t : tie.After-tidy) (n : ℕ) → let s = t .before .before in Accepted s n
     → LegTable mostPlaces (entry (metresOf (table s))) (startsOf (tidy t)) (requestsOf (tidy t)) (standsOf (tidy t)) costs
     → Kept n (metresOf (table s)) (startsOf (tidy t)) (requestsOf (tidy t)) (standsOf (tidy t)) (tidy t .plan) (tidy t .weights) costs
 kept t n h legs =
@@ -88,7 +88,7 @@ abbrev at-end : tie.After-costs4 → tie.After-tidy
 at-end c = at-call (c .before .before .before .before .before)
 
 tidy-requires : tie.Need-tidy-requires
-tidy-requires c κs = let k = commit-called (c .pre .1) .0 .sound .counts in (k .cranes, k .calls)
+tidy-requires c κs = let k = commit-called (c .before .pre .1) .0 .sound .counts in (k .cranes, k .calls)
 
 zeros-requires : tie.Need-zeros-requires
 zeros-requires c κs = search needs
@@ -129,7 +129,7 @@ slice-aggregate-serve-call-6 c = search needs
 serve-call-requires : tie.Need-serve-call-requires
 serve-call-requires c κs =
     let t = at-call c in
-    let s = t .before in
+    let s = t .before .before in
     let k = tested-so t in
     let f = c .before .before .before .before .before .before .before .of-book .ensures in
     let day = kept t (s .pre .0) (s .pre .1) f in
@@ -154,7 +154,7 @@ sent : (a : tie.After-serve-call) → let b = tidy (at-call (a .before)) in let 
     (step .crane < b .cranes) × ((j : ℕ) → getD (b .driven) j 0 + step .metres ≤ mostMetres * (b .calls + 1))
 sent a =
     let t = at-call (a .before) in
-    let s = t .before in
+    let s = t .before .before in
     let k = tested-so t in
     let f = a .before .before .before .before .before .before .before .before in
     let day = kept t (s .pre .0) (s .pre .1) (f .of-book .ensures) in
@@ -187,7 +187,7 @@ returns c = λ n h.
     let a = c .before .before .before .before .before in
     let f = a .before .before .before .before .before .before .before .before in
     let day = kept t n h (f .of-book .ensures) in
-    let answered = a .serve-call .ensures .answered n (metresOf (table (t .before))) (sound-roads (k .sound)) day (k .on) in (
+    let answered = a .serve-call .ensures .answered n (metresOf (table (t .before .before))) (sound-roads (k .sound)) day (k .on) in (
       committed-after (arrays t) (k .sound) (k .on) (k .space) answered refl e (same t n h),
       next (arrays t) (k .sound) (k .on) (k .space) answered (a .serve-call .ensures .unmoved) (tidy-plan _ e) (tidy-weights _ e),
     )

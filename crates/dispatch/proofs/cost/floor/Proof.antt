@@ -18,25 +18,25 @@ fits : (s : tie.Start) → Fits (s .args .book)
 fits s = sound-fits (arrays s) (sound s)
 
 array-share-prefix-starts : tie.Need-array-share-prefix-starts
-array-share-prefix-starts c = fits (c .before .before) .starts
+array-share-prefix-starts c = fits (c .before .before .before) .starts
 
 slice-aggregate-floor : tie.Need-slice-aggregate-floor
-slice-aggregate-floor c = sym (starts-long (fits (c .before .before .before)))
+slice-aggregate-floor c = sym (starts-long (fits (c .before .before .before .before)))
 
 array-share-prefix-requests : tie.Need-array-share-prefix-requests
-array-share-prefix-requests c = fits (c .before .before .before) .requests
+array-share-prefix-requests c = fits (c .before .before .before .before) .requests
 
 slice-aggregate-floor-2 : tie.Need-slice-aggregate-floor-2
-slice-aggregate-floor-2 c = sym (requests-long (fits (c .before .before .before .before)))
+slice-aggregate-floor-2 c = sym (requests-long (fits (c .before .before .before .before .before)))
 
 floor-requires : tie.Need-floor-requires
 floor-requires c κs =
-    let s = c .before .before .before .before in
+    let s = c .before .before .before .before .before in
     record { places = _; metres = _; roads = sound-roads (sound s); asked = sound-asked (arrays s) (sound s) }
 
 returns : tie.Need-returns
 returns c = λ n h.
-    let s = c .before .before .before .before .before in
+    let s = c .before .before .before .before .before .before in
     let k : Sound (s .args .book) n (s .args .table .now) = book-sound h in
     c .floor .ensures _ _ (sound-roads k) (sound-asked (arrays s) k)
 

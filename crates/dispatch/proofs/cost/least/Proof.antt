@@ -31,10 +31,10 @@ slice-aggregate-of-book : tie.Need-slice-aggregate-of-book
 slice-aggregate-of-book c = search needs
 
 of-book-requires : tie.Need-of-book-requires
-of-book-requires c κs = let s = c .before .before .before in sound-given (arrays s) (sound s) (c .before .zeros .ensures .costed)
+of-book-requires c κs = let s = c .before .before .before .before in sound-given (arrays s) (sound s) (c .before .zeros .ensures .costed)
 
 add-cost : tie.Need-add-cost
-add-cost c = let k = sound (c .before .before .before .before .before .before) .counts in omega arith
+add-cost c = let k = sound (c .before .before .before .before .before .before .before) .counts in omega arith
 
 slice-aggregate-cost : tie.Need-slice-aggregate-cost
 slice-aggregate-cost c = search needs
@@ -44,7 +44,7 @@ slice-aggregate-cost-2 c = search needs
 
 cost-requires : tie.Need-cost-requires
 cost-requires c κs =
-    let s = c .before .before .before .before .before .before .before .before in
+    let s = c .before .before .before .before .before .before .before .before .before in
     let k = sound s .counts in
     record {
       few = omega arith;
@@ -56,7 +56,7 @@ cost-requires c κs =
 returns : tie.Need-returns
 returns c = λ n h.
     let f = c .before .before .before .before .before in
-    let s = f .before .before .before .before in
+    let s = f .before .before .before .before .before in
     let k : Sound (s .args .book) n (s .args .table .now) = book-sound h in
     let long = stops-long (sound-fits (arrays s) k) in
     let book = s .args .book in

@@ -21,7 +21,7 @@ given s = record {
 
 -- the places of the code from which the others are looked back upon
 abbrev start : tie.After-costs → tie.Start
-start c = c .before .before .before .before .before .before .before
+start c = c .before .before .before .before .before .before .before .before
 
 abbrev filled : tie.After-leasts → tie.After-costs2
 filled c = c .before .before .before .before .before .before .before .before .before

@@ -16,7 +16,7 @@ use Rattle.dispatch.proofs.floor.floor.Tie as tie
 
 -- the places of the code from which the others are looked back upon
 abbrev start : tie.After-costs → tie.Start
-start c = c .before .before .before .before .before .before .before
+start c = c .before .before .before .before .before .before .before .before
 
 abbrev filled : tie.After-weights → tie.After-fill-free
 filled c = c .before .before .before .before
@@ -26,7 +26,7 @@ inserted c = c .before .before .before .before
 
 -- the plan that it begins with
 own-plan : (c : tie.After-fill-own)
-    → c .fill-own .last .1 .0 ≡ padded mostStops (length (c .before .before .before .before .before .args .starts .now)) (λ j. j) 0
+    → c .fill-own .last .1 .0 ≡ padded mostStops (length (c .before .before .before .before .before .before .args .starts .now)) (λ j. j) 0
 own-plan c = rw (c .fill-own .ensures) (simp drop-replicate)
 
 add-stops : tie.Need-add-stops
@@ -39,7 +39,7 @@ slice-aggregate-fill-own : tie.Need-slice-aggregate-fill-own
 slice-aggregate-fill-own c = search needs
 
 fill-own-requires : tie.Need-fill-own-requires
-fill-own-requires c κs = let asked = c .before .before .before .before .pre .asked in (omega (arith, asked .cranes), omega (arith, asked .cranes))
+fill-own-requires c κs = let asked = c .before .before .before .before .before .pre .asked in (omega (arith, asked .cranes), omega (arith, asked .cranes))
 
 slice-aggregate-fill-free : tie.Need-slice-aggregate-fill-free
 slice-aggregate-fill-free c = search needs

@@ -13,7 +13,7 @@ put-requires : tie.Need-put-requires
 put-requires c κs =
     let k = c .before .before in
     let f = k .before in
-    let p = f .before .before .before .pre in
+    let p = f .before .before .before .before .pre in
     (p .0, (p .1 .0, costed-kept (p .1 .1) (k .costs .given) (f .fill-column .ensures .rows)))
 
 same-length : tie.Need-same-length
@@ -23,7 +23,7 @@ returns : tie.Need-returns
 returns c =
     let w = c .before .before in
     let f = w .before .before .before .before in
-    call-added (f .before .before .before .pre .0) (f .fill-column .ensures) (w .put .ensures)
+    call-added (f .before .before .before .before .pre .0) (f .fill-column .ensures) (w .put .ensures)
 
 pub extend-spec : {M : Type 1} → statement M
 extend-spec = tie.close (tie.spec fill-column-requires put-requires same-length returns)

@@ -81,7 +81,7 @@ loop-less c = search needs
 loop-again : tie.Need-loop-again Inv-loop μ-loop
 loop-again c =
     let l = c .before in
-    let p = l .before .before .before .pre in
+    let p = l .before .before .before .before .pre in
     column-turned _ _ _ _ _ _ (l .before .loop .inv) (p .0) (p .1) (l .loop-test .taken) (c .metres .ensures)
 
 same-length : tie.Need-same-length Inv-loop μ-loop

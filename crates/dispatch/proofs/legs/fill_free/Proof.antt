@@ -8,7 +8,7 @@ use Rattle.dispatch.proofs.legs.fill_free.Tie as tie
 
 -- where the function begins
 abbrev start : tie.After-fill-rows → tie.Start
-start f = f .before .before .before .before .before
+start f = f .before .before .before .before .before .before
 
 fill-rows-requires : tie.Need-fill-rows-requires
 fill-rows-requires c κs = search needs

@@ -27,7 +27,7 @@ shared-slice-read-metres : tie.Need-shared-slice-read-metres Inv-loop μ-loop
 shared-slice-read-metres c = search needs
 
 cast-metres : tie.Need-cast-metres Inv-loop μ-loop
-cast-metres c = omega (arith, c .shared-slice-known2 .given (c .before .before .loop .p))
+cast-metres c = omega (arith, c .shared-slice-known3 .given (c .before .before .loop .p))
 
 metres-requires : tie.Need-metres-requires Inv-loop μ-loop
 metres-requires c κs = search needs

@@ -13,11 +13,11 @@ slice-relend-prefix-fill-from : tie.Need-slice-relend-prefix-fill-from
 slice-relend-prefix-fill-from c = search needs
 
 slice-aggregate-fill-from : tie.Need-slice-aggregate-fill-from
-slice-aggregate-fill-from c = sym (length-take-le _ _ (c .before .before .before .before .pre .0))
+slice-aggregate-fill-from c = sym (length-take-le _ _ (c .before .before .before .before .before .pre .0))
 
 fill-from-requires : tie.Need-fill-from-requires
 fill-from-requires c κs =
-    let s = c .before .before .before .before in
+    let s = c .before .before .before .before .before in
     rw (length-take-le (length (s .args .starts .now)) (s .args .row .now) (s .pre .0)) (le-refl _)
 
 mul-fill-from : tie.Need-mul-fill-from
@@ -42,7 +42,7 @@ returns : tie.Need-returns
 returns c =
     let t = c .before .before in
     let f = t .before .before .before .before in
-    let s = f .before .before .before .before .before in
+    let s = f .before .before .before .before .before .before in
     let a = s .args in
     row-joined (λ p. entry (metresOf (a .table .now)) p (a .to)) (a .starts .now) (a .calls .now) (a .row .now) _ _ (s .pre .0) (s .pre .1)
     (f .fill-from .ensures) (t .fill-from2 .ensures)

@@ -99,7 +99,7 @@ loop-again : tie.Need-loop-again Inv-loop μ-loop
 loop-again c =
     let w = c .before .before in
     let l = w .before .before in
-    let p = l .before .before .before .before .before .pre in
+    let p = l .before .before .before .before .before .before .pre in
     rows-turned _ _ _ _ _ _ _ (l .before .loop .inv) (p .0) (p .1) (l .loop-test .taken) (w .fill-row .ensures)
 
 same-length : tie.Need-same-length Inv-loop μ-loop

@@ -7,7 +7,7 @@ use Rattle.dispatch.proofs.legs.of_book.Statement.{statement}
 use Rattle.dispatch.proofs.legs.of_book.Tie as tie
 
 abbrev start : tie.After-stands → tie.Start
-start c = c .before .before .before .before
+start c = c .before .before .before .before .before
 
 fits : (c : tie.After-stands) → Fits (start c .args .book)
 fits c = fit (record { starts = search needs; stands = search needs; requests = search needs; driven = search needs }) (start c .pre .cranes) (start c .pre .calls)

@@ -16,7 +16,7 @@ arrays : (s : tie.Start) → BookArrays (s .args .book)
 arrays s = record { starts = search needs; stands = search needs; requests = search needs; driven = search needs }
 
 abbrev begun : tie.After-of-book → tie.Start
-begun f = f .before .before .before .before
+begun f = f .before .before .before .before .before
 
 abbrev netted : tie.After-lower → tie.After-of-book
 netted l = l .before .before .before .before .before
@@ -32,7 +32,7 @@ slice-aggregate-of-book-2 c = search needs
 
 of-book-requires : tie.Need-of-book-requires
 of-book-requires c κs =
-    let s = c .before .before .before in
+    let s = c .before .before .before .before in
     record { places = s .pre .0; accepted = s .pre .1; netted = search needs; costed = c .before .before .zeros .ensures .costed }
 
 slice-aggregate-lower : tie.Need-slice-aggregate-lower

@@ -55,7 +55,7 @@ room s = rw (requests-long (fits s)) (called s .space)
 
 -- the places of the calls and the entry, each from a place after it
 abbrev begun : tie.After-of-book → tie.Start
-begun f = f .before .before .before .before .before .before .before
+begun f = f .before .before .before .before .before .before .before .before
 
 abbrev extended : tie.After-weights2 → tie.After-extend
 extended c = c .before .before .before .before
@@ -64,11 +64,11 @@ abbrev filled : tie.After-extend → tie.After-of-book
 filled e = e .before .before .before .before
 
 add-new : tie.Need-add-new
-add-new c = let k = called (c .before .before .before) .sound .counts in omega arith
+add-new c = let k = called (c .before .before .before .before) .sound .counts in omega arith
 
 of-book-requires : tie.Need-of-book-requires
 of-book-requires c κs =
-    let s = c .before .before .before .before .before .before in
+    let s = c .before .before .before .before .before .before .before in
     sound-given (arrays s) (called s .sound) (s .pre .costed)
 
 extend-requires : tie.Need-extend-requires

@@ -29,7 +29,7 @@ plan-long : (s : tie.Start) → length (s .args .book .plan) ≡ mostStops
 plan-long s = search needs
 
 abbrev begun : tie.After-of-book → tie.Start
-begun f = f .before .before .before .before .before .before
+begun f = f .before .before .before .before .before .before .before
 
 abbrev netted : tie.After-choose → tie.After-of-book
 netted c = c .before .before .before .before .before
@@ -56,7 +56,7 @@ summed c =
     sum-within (arrays s) (called s) (f .of-book .ensures _ (s .pre .1)) (chosen c .choose .result) (sent (chosen c))
 
 add-new : tie.Need-add-new
-add-new c = let k = called (c .before) .sound .counts in omega arith
+add-new c = let k = called (c .before .before) .sound .counts in omega arith
 
 zeros-requires : tie.Need-zeros-requires
 zeros-requires c κs = search needs
@@ -69,7 +69,7 @@ slice-aggregate-of-book-2 c = search needs
 
 of-book-requires : tie.Need-of-book-requires
 of-book-requires c κs =
-    let s = c .before .before .before .before .before in
+    let s = c .before .before .before .before .before .before in
     record { places = s .pre .0; accepted = s .pre .1; netted = search needs; costed = c .before .before .zeros .ensures .costed }
 
 slice-aggregate-choose : tie.Need-slice-aggregate-choose

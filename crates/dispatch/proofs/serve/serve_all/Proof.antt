@@ -16,7 +16,7 @@ use Rattle.dispatch.proofs.serve.serve_all.Statement.{statement}
 use Rattle.dispatch.proofs.serve.serve_all.Tie as tie
 
 -- the invariant, of lists that keep their lengths: a day under way if it was at first
-record Going (table : List (List ℕ)) (starts requests stands₀ plan₀ : List ℕ) (weights₀ : List ℤ) (costs₀ cranes₀ metres₀ leasts₀ : List ℕ)
+record Going (table starts requests stands₀ plan₀ : List ℕ) (weights₀ : List ℤ) (costs₀ cranes₀ metres₀ leasts₀ : List ℕ)
     (stands plan : List ℕ) (weights : List ℤ) (costs cranes metres leasts : List ℕ) (driven i : ℕ) : Type 0 where
   most : i ≤ length requests
   stood : length stands ≡ length stands₀
@@ -42,7 +42,7 @@ abbrev μ-loop : tie.MeasureT-loop
 
 -- the places of the code from which the others are looked back upon
 abbrev start : tie.At-loop Inv-loop μ-loop → tie.Start Inv-loop μ-loop
-start l = l .before .before .before .before .before .before .before .before .before
+start l = l .before .before .before .before .before .before .before .before .before .before
 
 abbrev turn : tie.After-serve-call-arg5 Inv-loop μ-loop → tie.In-loop Inv-loop μ-loop
 turn c = c .before .before .before .before .before .before

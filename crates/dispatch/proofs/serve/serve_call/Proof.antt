@@ -15,7 +15,7 @@ use Rattle.dispatch.proofs.serve.serve_call.Tie as tie
 
 -- from the call of `extend` back to where the function begins, and from that of `insert` to that of `extend`
 abbrev begun : tie.After-extend → tie.Start
-begun e = e .before .before .before .before .before .before .before
+begun e = e .before .before .before .before .before .before .before .before
 
 abbrev extended : tie.After-insert → tie.After-extend
 extended i = i .before .before .before .before .before .before
@@ -43,7 +43,7 @@ add-new c = search needs
 
 extend-requires : tie.Need-extend-requires
 extend-requires c κs =
-    let a = c .before .before .before .before .before .before in
+    let a = c .before .before .before .before .before .before .before in
     (room a, (on-road a, a .pre .kept .table .costed))
 
 insert-requires : tie.Need-insert-requires
