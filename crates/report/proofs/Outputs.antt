@@ -3,7 +3,7 @@
 use Prim.Native.Nat.{ℕ, zero, suc, _≤_, zero-le}
 use mathlib.Core.List.{List}
 use mathlib.Core.Path.{_≡_, sym, ap, _∙_}
-use lib.ListN.{length, getD, replicate}
+use lib.ListN.{length, getD, take, replicate}
 use lib.Seq.{length-take-le}
 use native.Mathlib.Nat.{zero-add}
 use native.Mathlib.Omega.{arith}
@@ -12,7 +12,8 @@ use Rattle.base.specs.Numbers.{unlessRefused}
 use Rattle.base.proofs.Lists.{drop-replicate}
 use Rattle.base.proofs.Numbers.{zeros-told, either-told}
 use Rattle.io.specs.Counts.{Counts}
-use Rattle.road.specs.Table.{Table}
+use Rattle.road.specs.Table.{Table, mostPlaces, legsOf}
+use Rattle.road.proofs.Table.{legs-counted}
 use Rattle.dayfile.specs.declared.Day.{Day}
 use Rattle.dayfile.specs.Day.{mostCalls, DayArrays, dayRefusal}
 use Rattle.dayfile.specs.File.{Answer, readFile, readTable, Output, outputBy}
@@ -90,9 +91,12 @@ module _ (told : Day → Table → List ℕ) (file : List ℕ) (a : Answer) (e :
       → Put (fileText told file) old 0 now r
   file-refused n q h p = rw (← e, ← zeros-told (a .number) _ (λ (k : ℕ). refusedLine k (a .index)) h, ← q) p
 
-  pub file-told : (table : List (List ℕ)) {old now : List ℕ} {r : ℕ} → table ≡ readTable file → a .number ≡ 0
-      → Put (told (a .day) table) old 0 now r → Put (fileText told file) old 0 now r
-  file-told table q z p = rw (← e, z) (rw (q, ← e) at p)
+  -- the legs of the places read are the run
+  pub file-told : {legs : ℕ} {old now : List ℕ} {r : ℕ} → legs ≡ legsOf (a .day .places) → a .number ≡ 0
+      → Put (told (a .day) (take legs (a .table))) old 0 now r → Put (fileText told file) old 0 now r
+  file-told q z p =
+      let few : a .day .places ≤ mostPlaces = rw e (day-tested _ _ (file-accepted file (rw (← e) z)) .counts .places) in
+      rw (← e, z) (rw (q ∙ legs-counted (a .day .places) few) at p)
 
 -- the day of an accepted file is served: a file's own test leaves nothing for the day's to refuse
 pub accepted-served : (file : List ℕ) → readFile file .number ≡ 0 → servedDay (readFile file .day) (readTable file) .number ≡ 0

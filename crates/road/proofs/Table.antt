@@ -4,7 +4,7 @@ use Prim.Native.Nat.{ℕ, zero, suc, _+_, _-_, _*_, _<_, _≤_, zero-le}
 use mathlib.Core.Bool.{true, and-false, and-comm}
 use mathlib.Core.Logic.{⊎-elim}
 use mathlib.Core.Path.{_≡_, refl, sym, ap, subst, _∙_}
-use borrow.Author.Tests.{leb-true, le-leb, lt-ltb, le-ltb, eqb-true, eq-eqb}
+use borrow.Author.Tests.{leb-true, le-leb, lt-leb, lt-ltb, le-ltb, eqb-true, eq-eqb}
 use lib.Dec.{ltb, eqb}
 use lib.ListN.{length, getD, List·getD-eq-default}
 use native.Mathlib.Decide.{decLt}
@@ -64,6 +64,14 @@ each-leg P (suc n) all i lt = either (λ before. each-leg P n (λ u v p q. all u
 -- the legs of a table that may be
 pub legs-counted : (n : ℕ) → n ≤ mostPlaces → legsOf n ≡ legCount n
 legs-counted n p = rw (le-leb n mostPlaces p)
+
+-- no table has more than the most legs
+pub legs-most : (n : ℕ) → legsOf n ≤ mostLegs
+legs-most n = either (decLt mostPlaces n)
+  where
+    either : Dec (mostPlaces < n) → legsOf n ≤ mostLegs
+    either (yes more) = rw (lt-leb n mostPlaces more) zero-le
+    either (no few) = let le : n ≤ mostPlaces = omega arith in rw (legs-counted n le) (leg-count-most n le)
 
 module _ (d : ℕ → ℕ → ℕ) (u v : ℕ) where
   pub entry-in : u < mostPlaces → v < mostPlaces → entry d u v ≡ d u v

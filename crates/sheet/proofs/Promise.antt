@@ -9,7 +9,7 @@ use Rattle.base.specs.Lists.{upTo}
 use Rattle.base.specs.Numbers.{unlessRefused}
 use Rattle.base.proofs.Blocks.{each-upTo, blocks-back}
 use Rattle.base.proofs.Lists.{splice-none}
-use Rattle.road.specs.Table.{Table, metresOf}
+use Rattle.road.specs.Table.{Table}
 use Rattle.dayfile.specs.declared.Day.{Day}
 use Rattle.dayfile.specs.Day.{dayRequests, DayArrays, SameDay, dayRefusal}
 use Rattle.dayfile.specs.File.{bytesWritten}
@@ -86,8 +86,7 @@ no-rows day t out accepted none =
     let bytes : sheetBytes day t ≡ [] = ap (flatMap rowBytes) (sheet-rows day t accepted ∙ ap (λ (k : ℕ). upTo k (rowOf day t)) none) in
     sym (output-written (dayRefusal day t) (sheetBytes day t) out accepted (ap length bytes) out zero-le (rw bytes (splice-none 0 out zero-le)))
 
--- entries past the counts, the road table's included, are ignored
-pub same-sheet : (a b : Day) (t s : Table) (out : List ℕ) → SameDay a b
-    → ((u v : ℕ) → u < b .places → v < b .places → metresOf t u v ≡ metresOf s u v) → sheetOf a t out ≡ sheetOf b s out
+-- entries past the counts are ignored
+pub same-sheet : (a b : Day) (t : Table) (out : List ℕ) → SameDay a b → sheetOf a t out ≡ sheetOf b t out
 unfolding sheetRows
-same-sheet a b t s out days tables = rw (same-refusal a b t s days tables, same-day-served a b t s days tables, days .requests)
+same-sheet a b t out days = rw (same-refusal a b t days, same-day-served a b t days, days .requests)

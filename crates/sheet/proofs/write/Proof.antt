@@ -15,12 +15,12 @@ use Rattle.sheet.proofs.write.Statement.{statement}
 use Rattle.sheet.proofs.write.Tie as tie
 
 -- what serving the day tells once it accepted
-tested : (c : tie.After-enum-told) → let a = c .before .before .before .before .args in dayRefusal (a .day) (a .table) ≡ 0
+tested : (c : tie.After-enum-told) → let a = c .before .before .before .before .before .args in dayRefusal (a .day) (a .table .now) ≡ 0
 tested c =
     let r = c .before .before .serve-day in
     accepts _ _ (c .enum-told .given .1) (told-number _ _ (dayFigures (r .result)) (r .ensures))
 
-arrays : (c : tie.After-enum-told) → DayArrays (c .before .before .before .before .args .day)
+arrays : (c : tie.After-enum-told) → DayArrays (c .before .before .before .before .before .args .day)
 arrays c = record { starts = search needs; requests = search needs }
 
 few : (c : tie.After-enum-told) → c .before .before .serve-day .result .calls ≤ mostCalls

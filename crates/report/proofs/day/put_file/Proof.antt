@@ -1,9 +1,14 @@
 -- `report::day::put_file` meets its contract: the line of the refusal of the file, or what is told of its day.
 -- Assumes nothing.
-use mathlib.Core.Path.{ap}
+use Prim.Native.Nat.{_≤_}
+use mathlib.Core.Path.{_≡_, sym, ap}
 use borrow.Author.Needs.{needs}
+use lib.ListN.{length}
+use lib.Seq.{length-take-le}
 use Rattle.base.specs.Numbers.{numberOf}
 use Rattle.base.proofs.Numbers.{refused-number}
+use Rattle.road.specs.Table.{mostLegs}
+use Rattle.road.proofs.Table.{legs-most}
 use Rattle.dayfile.specs.File.{answer}
 use Rattle.report.specs.declared.day.Form.the-variants.{Lines, Rows}
 use Rattle.report.specs.Report.{dayIn}
@@ -40,14 +45,26 @@ returns c =
     file-refused (dayIn (k .before .before .before .args .form)) _ (answer (r .result)) (r .ensures) _ (c .before .before .before .before .number .ensures) (refused-number _ (e .0 .0) (e .1))
     (c .before .before .put-refused .ensures)
 
+-- the legs are within the table that is read
+few : (c : tie.After-legs) → c .legs .result ≤ length (c .before .before .before .before .before .read .result .table)
+few c =
+    let long : length (c .before .before .before .before .before .read .result .table) ≡ mostLegs = search needs in
+    rw (c .legs .ensures, long) (legs-most (c .before .before .before .before .before .read .result .day .places))
+
+legs-requires : tie.Need-legs-requires
+legs-requires c κs = search needs
+
 enum-told-3 : tie.Need-enum-told-3
 enum-told-3 c = search needs
 
 enum-told-4 : tie.Need-enum-told-4
 enum-told-4 c = search needs
 
-read-table-requires : tie.Need-read-table-requires
-read-table-requires c κs = search needs
+array-share-prefix-table : tie.Need-array-share-prefix-table
+array-share-prefix-table c = few (c .before .before)
+
+slice-aggregate-put-lines : tie.Need-slice-aggregate-put-lines
+slice-aggregate-put-lines c = sym (length-take-le _ _ (few (c .before .before .before)))
 
 put-lines-requires : tie.Need-put-lines-requires
 put-lines-requires c κs = search needs
@@ -57,14 +74,17 @@ same-length-2 c = search needs
 
 returns-2 : tie.Need-returns-2
 returns-2 c =
-    let t = c .before .before .before .before .before .before .before .before in
+    let l = c .before .before .before .before .before .before .before in
+    let t = l .before .before .before in
     let r = t .before .before .read in
     rw (c .before .before .before .before .before .enum-told4 .given .1)
-    (file-told (dayIn Lines) _ (answer (r .result)) (r .ensures) _ (c .before .before .before .before .read-table .ensures) (ap numberOf (t .enum-told .given .1))
-    (c .before .before .put-lines .ensures))
+    (file-told (dayIn Lines) _ (answer (r .result)) (r .ensures) (l .legs .ensures) (ap numberOf (t .enum-told .given .1)) (c .before .before .put-lines .ensures))
 
-read-table-requires-2 : tie.Need-read-table-requires-2
-read-table-requires-2 c κs = search needs
+array-share-prefix-table-2 : tie.Need-array-share-prefix-table-2
+array-share-prefix-table-2 c = few (c .before .before)
+
+slice-aggregate-put-rows : tie.Need-slice-aggregate-put-rows
+slice-aggregate-put-rows c = sym (length-take-le _ _ (few (c .before .before .before)))
 
 put-rows-requires : tie.Need-put-rows-requires
 put-rows-requires c κs = search needs
@@ -74,11 +94,11 @@ same-length-3 c = search needs
 
 returns-3 : tie.Need-returns-3
 returns-3 c =
-    let t = c .before .before .before .before .before .before .before .before in
+    let l = c .before .before .before .before .before .before .before in
+    let t = l .before .before .before in
     let r = t .before .before .read in
     rw (c .before .before .before .before .before .enum-told3 .given .1)
-    (file-told (dayIn Rows) _ (answer (r .result)) (r .ensures) _ (c .before .before .before .before .read-table2 .ensures) (ap numberOf (t .enum-told .given .1))
-    (c .before .before .put-rows .ensures))
+    (file-told (dayIn Rows) _ (answer (r .result)) (r .ensures) (l .legs .ensures) (ap numberOf (t .enum-told .given .1)) (c .before .before .put-rows .ensures))
 
 pub put-file-spec : {M : Type 1} → statement M
 put-file-spec =
@@ -92,13 +112,16 @@ put-file-spec =
     put-refused-requires
     same-length
     returns
+    legs-requires
     enum-told-3
     enum-told-4
-    read-table-requires
+    array-share-prefix-table
+    slice-aggregate-put-lines
     put-lines-requires
     same-length-2
     returns-2
-    read-table-requires-2
+    array-share-prefix-table-2
+    slice-aggregate-put-rows
     put-rows-requires
     same-length-3
     returns-3)

@@ -75,7 +75,7 @@ returns-2 c =
     let t = c .before .before .before .before .before .before .before .before .before .before .before .before .before .before in
     let s = t .before .before in
     rw (← s .serve-day .ensures)
-    (day-put (dayFigures (s .serve-day .result)) (ap numberOf (t .enum-told .given .1)) (few s) (s .before .before .pre)
+    (day-put (dayFigures (s .serve-day .result)) (ap numberOf (t .enum-told .given .1)) (few s) (s .before .before .before .pre)
     (c .before .before .before .before .before .before .put-calls .ensures) (c .before .before .put-last .ensures))
 
 pub put-lines-spec : {M : Type 1} → statement M

@@ -37,8 +37,8 @@ returns : tie.Need-returns
 returns c =
     let e = c .before .before .before .before .before .enum-told2 .given in
     let w = c .before .before .before .before .before .before .before .before .before in
-    let s = w .before .before .before in
-    sheet-refused (s .args .day) (s .args .table) (arrays s) (s .args .out .now) _ (w .write .ensures) (s .pre) _ (c .before .before .before .before .number .ensures)
+    let s = w .before .before .before .before in
+    sheet-refused (s .args .day) (s .args .table .now) (arrays s) (s .args .out .now) _ (w .write .ensures) (s .pre) _ (c .before .before .before .before .number .ensures)
     (refused-number _ (e .0 .0) (e .1)) (c .before .before .put-refused .ensures)
 
 same-length-2 : tie.Need-same-length-2
@@ -47,8 +47,8 @@ same-length-2 c = search needs
 returns-2 : tie.Need-returns-2
 returns-2 c =
     let w = c .before .before .before .before in
-    let s = w .before .before .before in
-    sheet-put (s .args .day) (s .args .table) (arrays s) (s .args .out .now) _ (w .write .ensures) (s .pre) (ap numberOf (c .enum-told .given .1))
+    let s = w .before .before .before .before in
+    sheet-put (s .args .day) (s .args .table .now) (arrays s) (s .args .out .now) _ (w .write .ensures) (s .pre) (ap numberOf (c .enum-told .given .1))
 
 pub put-rows-spec : {M : Type 1} → statement M
 put-rows-spec =
