@@ -13,6 +13,7 @@ use Rattle.base.specs.Numbers.{unless, _then_, unlessRefused}
 use Rattle.base.proofs.Numbers.{then-zero, zeros-told, refused-first, accepted-values}
 use borrow.Author.Tests.{le-leb, lt-leb}
 use Rattle.road.specs.Table.{Table, metresOf, legCount}
+use Rattle.road.proofs.Order.{length-in-order}
 use Rattle.dayfile.specs.declared.Day.{Day}
 use Rattle.dayfile.specs.declared.codec.Record.{Record}
 use Rattle.dayfile.specs.Codec.{encodeAll}
@@ -20,7 +21,6 @@ use Rattle.dayfile.specs.Day.{dayStarts, dayRequests, stop, dayRecords}
 use Rattle.dayfile.specs.File.{Output, bytesWritten, outputBy, outputOf, dayBytes}
 use Rattle.dayfile.specs.Legs.{legRecords}
 use Rattle.dayfile.proofs.codec.Laws.{length-encodeAll, put-on}
-use Rattle.dayfile.proofs.legs.Laws.{length-legRecords}
 
 -- ---- bytes written into a buffer, after some tests
 
@@ -81,7 +81,7 @@ module _ (day : Day) (t : Table) (k : length (dayStarts day) ≡ day .cranes) (m
   count : length (dayRecords day (metresOf t)) ≡ legCount (day .places) + day .cranes + day .calls
   unfolding dayRecords
   count =
-      simp (length-append, length-legRecords, length-map, k, m) (omega arith)
+      simp (length-append, length-in-order, length-map, k, m) (omega arith)
 
   pub length-day : length (dayBytes day (metresOf t)) ≡ 12 * (legCount (day .places) + day .cranes + day .calls)
   length-day = length-encodeAll (dayRecords day (metresOf t)) ∙ ap (λ (n : ℕ). 12 * n) count
@@ -94,7 +94,7 @@ module _ (day : Day) (t : Table) (k : length (dayStarts day) ≡ day .cranes) (m
       → e ≡ splice 0 (dayBytes day (metresOf t)) old
   unfolding dayRecords
   all-put old a b e fits p q r =
-      let n : length legs ≡ legCount (day .places) = length-legRecords (metresOf t) (day .places) in
+      let n : length legs ≡ legCount (day .places) = length-in-order _ (day .places) in
       let c : length cranes ≡ day .cranes = length-map (dayStarts day) (stop 2) ∙ k in
       let l : length calls ≡ day .calls = length-map (dayRequests day) (stop 3) ∙ m in
       let two : length (legs ++ cranes) ≡ legCount (day .places) + day .cranes = length-append legs cranes ∙ (omega arith) in

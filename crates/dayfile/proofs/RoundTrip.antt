@@ -15,7 +15,8 @@ use Rattle.base.proofs.Lists.{upTo-same, take-upTo, take-padded, length-padded}
 use Rattle.base.proofs.Numbers.{first-of}
 use Rattle.base.proofs.Tests.{below-all}
 use Rattle.road.specs.Table.{Table, legCount, legIndex, metresOf, metresRule, legsRule}
-use Rattle.road.proofs.Table.{legs-before, each-leg, leg-count-most, metres-up}
+use Rattle.road.proofs.Order.{legs-before, each-leg, leg-count-most}
+use Rattle.road.proofs.Table.{metres-up}
 use Rattle.road.proofs.Surveyed.{triangles-kept}
 use Rattle.dayfile.specs.declared.Day.{Day}
 use Rattle.dayfile.specs.declared.codec.Record.{Record}

@@ -11,7 +11,7 @@ use native.Mathlib.Numerals.{add-one}
 use native.Mathlib.Omega.{arith}
 use Rattle.base.specs.Lists.{upTo}
 use Rattle.base.proofs.Lists.{upTo-more}
-use Rattle.road.specs.Table.{Table, mostPlaces, metresOf, metresRule}
+use Rattle.road.specs.Table.{Table, mostPlaces, metresOf, metresRule, inOrder}
 use Rattle.road.proofs.Table.{leg-metres}
 use Rattle.dayfile.specs.declared.Day.{Day}
 use Rattle.dayfile.specs.declared.codec.Record.{Record}
@@ -65,7 +65,7 @@ module _ (d : ℕ → ℕ → ℕ) {z : State} {rs : List Record} where
 module _ (d : ℕ → ℕ → ℕ) {z : State} where
   run-legs : (n : ℕ) → 1 ≤ n → n ≤ mostPlaces → ((u v : ℕ) → u < v → v < n → metresRule (d u v) ≡ true) → {rs : List Record}
       → Run (state 0 n 0 0) rs z → Run start (legRecords d n ++ rs) z
-  unfolding legRecords upTo
+  unfolding inOrder upTo
   run-legs zero one le rule run = absurd (not-suc-le-zero one)
   run-legs (suc zero) one le rule run = run
   run-legs (suc (suc n)) one le rule {rs} run =

@@ -1,19 +1,18 @@
 -- The legs of a file: their records, and the road table that they make.
-use Prim.Native.Nat.{ℕ, zero, suc}
-use mathlib.Core.List.{List, [], _++_}
+use Prim.Native.Nat.{ℕ}
+use mathlib.Core.List.{List}
 use lib.ListN.{getD}
-use Rattle.base.specs.Lists.{upTo, padded}
-use Rattle.road.specs.Table.{mostLegs, legCount}
+use Rattle.base.specs.Lists.{padded}
+use Rattle.road.specs.Table.{mostLegs, legCount, inOrder}
 use Rattle.dayfile.specs.declared.codec.Record.{Record}
 
 -- a leg's record
 abbrev pub leg : ℕ → ℕ → ℕ → Record
 leg u v m = record { kind = 1; pad = 0; first = u; second = v; gap = 0; metres = m }
 
--- "by second place, then by first": the legs between the places below n, with the metres of d
-unfoldable pub legRecords : (ℕ → ℕ → ℕ) → ℕ → List Record
-legRecords d zero = []
-legRecords d (suc v) = legRecords d v ++ upTo v (λ u. leg u v (d u v))
+-- the records of the legs between the places below n, with the metres of d
+abbrev pub legRecords : (ℕ → ℕ → ℕ) → ℕ → List Record
+legRecords d n = inOrder (λ u v. leg u v (d u v)) n
 
 -- past the last record
 abbrev pub none : Record

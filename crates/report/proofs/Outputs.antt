@@ -13,7 +13,7 @@ use Rattle.base.proofs.Lists.{drop-replicate}
 use Rattle.base.proofs.Numbers.{zeros-told, either-told}
 use Rattle.io.specs.Counts.{Counts}
 use Rattle.road.specs.Table.{Table, mostPlaces, legsOf}
-use Rattle.road.proofs.Table.{legs-counted}
+use Rattle.road.proofs.Order.{legs-counted}
 use Rattle.dayfile.specs.declared.Day.{Day}
 use Rattle.dayfile.specs.Day.{mostCalls, DayArrays, dayRefusal}
 use Rattle.dayfile.specs.File.{Answer, readFile, readTable, Output, outputBy}

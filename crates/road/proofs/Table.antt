@@ -1,77 +1,20 @@
--- The laws of the number of places and of legs, of the metres of a table, and of the rule of its legs.
+-- The laws of the metres of a table, of an accepted run, and of the rule of its legs.
 -- Assumes nothing.
-use Prim.Native.Nat.{ℕ, zero, suc, _+_, _-_, _*_, _<_, _≤_, zero-le}
+use Prim.Native.Nat.{ℕ, _<_, _≤_, zero-le}
 use mathlib.Core.Bool.{true, and-false, and-comm}
-use mathlib.Core.Logic.{⊎-elim}
-use mathlib.Core.Path.{_≡_, refl, sym, ap, subst, _∙_}
-use borrow.Author.Tests.{leb-true, le-leb, lt-leb, lt-ltb, le-ltb, eqb-true, eq-eqb}
+use mathlib.Core.Path.{_≡_, sym, _∙_}
+use borrow.Author.Tests.{leb-true, le-leb, lt-ltb, le-ltb, eqb-true, eq-eqb}
 use lib.Dec.{ltb, eqb}
 use lib.ListN.{length, getD, List·getD-eq-default}
 use native.Mathlib.Decide.{decLt}
-use native.Mathlib.Nat.{mul-comm, mul-suc, add-mul-div-right, zero-lt-suc, not-suc-le-zero, le-of-suc-le-suc, le-of-lt, le-of-eq, eq-or-lt-of-le}
-use native.Mathlib.Numerals.{add-one, sub-one}
+use native.Mathlib.Nat.{le-of-lt, le-of-eq}
 use native.Mathlib.Omega.{arith}
 use Rattle.base.specs.declared.Verdict.{Verdict}
 use Rattle.base.specs.declared.Verdict.the-variants.{Accepted}
 use Rattle.base.specs.Numbers.{numberOf}
 use Rattle.base.proofs.Numbers.{accepts, holds, first-of, unless-zero}
 use Rattle.base.proofs.Tests.{by-order, within-yes, within-most, below-at}
-use Rattle.road.specs.Table.{Table, mostPlaces, mostMetres, mostLegs, legCount, legIndex, legsOf, metresOf, entry, placesRule, placesRefusal, runRefusal, metresRule, legsRule}
-
-twice : (w : ℕ) → suc (suc w) * suc w ≡ suc w * w + suc w * 2
-twice w = mul-comm (suc (suc w)) (suc w) ∙ mul-suc (suc w) (suc w) ∙ ap (λ (p : ℕ). p + suc w) (mul-suc (suc w) w) ∙ omega arith
-
--- each place has a leg from every earlier one
-pub leg-count-suc : (v : ℕ) → legCount (suc v) ≡ legCount v + v
-unfolding legCount
-leg-count-suc zero = refl
-leg-count-suc (suc w) =
-    rw (sub-one (suc (suc w)), sub-one (suc w), twice w) (add-mul-div-right (suc w * w) (suc w) (zero-lt-suc 1))
-
-pub leg-count-more : (v : ℕ) → legCount (v + 1) ≡ legCount v + v
-leg-count-more v = rw add-one (leg-count-suc v)
-
-no-legs : legCount 0 ≡ 0
-unfolding legCount
-no-legs = refl
-
-all-legs : legCount mostPlaces ≡ mostLegs
-unfolding legCount
-all-legs = refl
-
--- the legs to v come before those to a later place
-pub legs-before : (v n : ℕ) → v < n → legCount v + v ≤ legCount n
-legs-before v zero p = absurd (not-suc-le-zero p)
-legs-before v (suc n) p =
-    ⊎-elim (λ (e : v ≡ n). omega (arith, ap legCount e, leg-count-suc n)) (λ (l : v < n). omega (arith, legs-before v n l, leg-count-suc n))
-    (eq-or-lt-of-le (le-of-suc-le-suc p))
-
-pub leg-count-most : (n : ℕ) → n ≤ mostPlaces → legCount n ≤ mostLegs
-leg-count-most n p =
-    ⊎-elim (λ (e : n ≡ mostPlaces). omega (arith, ap legCount e, all-legs)) (λ (l : n < mostPlaces). omega (arith, legs-before n mostPlaces l, all-legs)) (eq-or-lt-of-le p)
-
--- every index below the number of legs is a leg's
-pub each-leg : (P : ℕ → Type 0) (n : ℕ) → ((u v : ℕ) → u < v → v < n → P (legIndex u v)) → (i : ℕ) → i < legCount n → P i
-each-leg P zero all i lt = absurd (omega (arith, no-legs))
-each-leg P (suc n) all i lt = either (λ before. each-leg P n (λ u v p q. all u v p (omega arith)) i before) (decLt i (legCount n))
-  where
-    either : (i < legCount n → P i) → Dec (i < legCount n) → P i
-    either below (yes before) = below before
-    either below (no past) =
-        let u : ℕ = i - legCount n in
-        subst P (omega arith) (all u n (omega (arith, leg-count-suc n)) (omega arith))
-
--- the legs of a table that may be
-pub legs-counted : (n : ℕ) → n ≤ mostPlaces → legsOf n ≡ legCount n
-legs-counted n p = rw (le-leb n mostPlaces p)
-
--- no table has more than the most legs
-pub legs-most : (n : ℕ) → legsOf n ≤ mostLegs
-legs-most n = either (decLt mostPlaces n)
-  where
-    either : Dec (mostPlaces < n) → legsOf n ≤ mostLegs
-    either (yes more) = rw (lt-leb n mostPlaces more) zero-le
-    either (no few) = let le : n ≤ mostPlaces = omega arith in rw (legs-counted n le) (leg-count-most n le)
+use Rattle.road.specs.Table.{Table, mostPlaces, mostMetres, legCount, legIndex, metresOf, entry, placesRule, placesRefusal, runRefusal, metresRule, legsRule}
 
 module _ (d : ℕ → ℕ → ℕ) (u v : ℕ) where
   pub entry-in : u < mostPlaces → v < mostPlaces → entry d u v ≡ d u v

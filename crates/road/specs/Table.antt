@@ -1,9 +1,10 @@
 -- The road table: its legs in order, its metres, its rules, and the first refusal that applies to it.
-use Prim.Native.Nat.{ℕ, _+_, _-_, _*_, _/_}
+use Prim.Native.Nat.{ℕ, zero, suc, _+_, _-_, _*_, _/_}
 use mathlib.Core.Bool.{Bool, _&&_, cond}
-use mathlib.Core.List.{List}
+use mathlib.Core.List.{List, [], _++_}
 use lib.Dec.{leb, ltb, eqb}
 use lib.ListN.{length, getD, take}
+use Rattle.base.specs.Lists.{upTo}
 use Rattle.base.specs.Numbers.{unless, _then_}
 use Rattle.base.specs.Tests.{within, allBelow}
 
@@ -23,7 +24,13 @@ mostLegs = 2016
 unfoldable pub legCount : ℕ → ℕ
 legCount n = n * (n - 1) / 2
 
--- "the order (0,1), (0,2), (1,2), (0,3), and so on: by second place, then by first": the index of the leg (u,v), u being below v
+-- "in the order (0,1), (0,2), (1,2), (0,3), and so on: by second place, then by first": what f has for each leg between the places
+-- below n
+unfoldable pub inOrder : {A : Type 0} → (ℕ → ℕ → A) → ℕ → List A
+inOrder f zero = []
+inOrder f (suc v) = inOrder f v ++ upTo v (λ u. f u v)
+
+-- the index of the leg (u,v) in that order, u being below v
 abbrev pub legIndex : ℕ → ℕ → ℕ
 legIndex u v = legCount v + u
 

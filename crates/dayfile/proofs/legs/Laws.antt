@@ -1,28 +1,16 @@
--- The records of the legs: one for each leg, in order; and the table that they make.
--- Assumes nothing.
-use Prim.Native.Nat.{ℕ, zero, suc, _+_, _<_, _≤_}
-use mathlib.Core.List.{List, _++_}
-use mathlib.Core.Path.{_≡_, refl, sym, ap, _∙_}
-use lib.ListN.{length, getD, length-append}
-use native.Mathlib.Numerals.{add-one}
+-- The table that the records of the legs make. Assumes nothing.
+use Prim.Native.Nat.{ℕ, _<_}
+use mathlib.Core.List.{List}
+use mathlib.Core.Path.{_≡_, ap, _∙_}
+use lib.ListN.{length, getD}
 use native.Mathlib.Omega.{arith}
 use Rattle.base.specs.Lists.{upTo}
 use Rattle.base.proofs.Lists.{length-upTo, getD-upTo, take-padded}
 use Rattle.road.specs.Table.{Table, mostLegs, legCount, legIndex, runOf, metresOf}
-use Rattle.road.proofs.Table.{leg-count-suc, legs-before, metres-up}
+use Rattle.road.proofs.Order.{legs-before}
+use Rattle.road.proofs.Table.{metres-up}
 use Rattle.dayfile.specs.declared.codec.Record.{Record}
-use Rattle.dayfile.specs.Legs.{leg, legRecords, metresAt, tableOf}
-
-module _ (d : ℕ → ℕ → ℕ) where
-  pub legRecords-more : (v : ℕ) → legRecords d (v + 1) ≡ legRecords d v ++ upTo v (λ u. leg u v (d u v))
-  unfolding legRecords
-  legRecords-more v = rw add-one
-
-  pub length-legRecords : (v : ℕ) → length (legRecords d v) ≡ legCount v
-  unfolding legRecords legCount
-  length-legRecords zero = refl
-  length-legRecords (suc v) =
-      length-append (legRecords d v) _ ∙ rw (length-legRecords v, length-upTo v (λ u. leg u v (d u v))) (sym (leg-count-suc v))
+use Rattle.dayfile.specs.Legs.{metresAt, tableOf}
 
 -- the run of the table that records make
 abbrev pub readRun : ℕ → List Record → Table

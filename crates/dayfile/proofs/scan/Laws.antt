@@ -16,7 +16,7 @@ use Rattle.base.specs.Tests.{within}
 use Rattle.base.proofs.Numbers.{unless-zero, then-zero, first-of, zeros-told}
 use Rattle.base.proofs.Tests.{within-least, within-most}
 use Rattle.road.specs.Table.{mostPlaces, metresRefusal, legCount}
-use Rattle.road.proofs.Table.{leg-count-more}
+use Rattle.road.proofs.Order.{leg-count-more}
 use Rattle.dayfile.specs.declared.codec.Record.{Record}
 use Rattle.dayfile.specs.declared.scan.State.{State}
 use Rattle.dayfile.specs.Day.{mostCranes, mostCalls, stop}

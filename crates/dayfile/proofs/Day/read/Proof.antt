@@ -11,7 +11,8 @@ use Rattle.base.specs.Numbers.{numberOf, _then_}
 use Rattle.base.specs.declared.Verdict.{Verdict}
 use Rattle.base.proofs.Numbers.{accepts, asked-again, refused-number}
 use Rattle.road.specs.Table.{mostPlaces, legCount, runRefusal, triangleRefusal}
-use Rattle.road.proofs.Table.{legs-counted, leg-count-most, run-passes}
+use Rattle.road.proofs.Order.{legs-counted, leg-count-most}
+use Rattle.road.proofs.Table.{run-passes}
 use Rattle.dayfile.specs.declared.codec.Record.{Record}
 use Rattle.dayfile.specs.Codec.{records}
 use Rattle.dayfile.specs.Legs.{tableOf}

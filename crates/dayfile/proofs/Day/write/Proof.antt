@@ -7,7 +7,7 @@ use lib.ListN.{length}
 use native.Mathlib.Omega.{arith}
 use Rattle.base.proofs.Numbers.{accepts, refused-number}
 use Rattle.road.specs.Table.{mostLegs, legCount, metresOf}
-use Rattle.road.proofs.Table.{legs-counted, leg-count-most}
+use Rattle.road.proofs.Order.{legs-counted, leg-count-most}
 use Rattle.dayfile.specs.Day.{DayArrays, dayRefusal}
 use Rattle.dayfile.specs.File.{dayBytes}
 use Rattle.dayfile.proofs.Limits.{CountsTested, length-starts, length-requests, day-tested}

@@ -9,21 +9,20 @@ use native.Mathlib.Nat.{zero-add}
 use native.Mathlib.Omega.{arith}
 use Rattle.base.specs.Lists.{upTo, splice}
 use Rattle.base.proofs.Lists.{splice-ended}
-use Rattle.road.specs.Table.{metresOf, legCount}
-use Rattle.road.proofs.Table.{legs-before, leg-count-more}
+use Rattle.road.specs.Table.{metresOf, legCount, inOrder}
+use Rattle.road.proofs.Order.{legs-before, leg-count-more, in-order-more, length-in-order}
 use Rattle.dayfile.specs.Codec.{encodeAll}
 use Rattle.dayfile.specs.Legs.{leg, legRecords}
 use Rattle.dayfile.proofs.codec.Laws.{Put, put-begun, put-turned}
-use Rattle.dayfile.proofs.legs.Laws.{legRecords-more, length-legRecords}
 use Rattle.dayfile.proofs.legs.put.Statement.{statement}
 use Rattle.dayfile.proofs.legs.put.Tie as tie
 
 row-put : (d : ℕ → ℕ → ℕ) (n : ℕ) (old now new : List ℕ) (v : ℕ) → 12 * legCount n ≤ length old → Put (legRecords d) 0 old n now v → v < n
     → new ≡ splice (12 * legCount v) (encodeAll (upTo v (λ u. leg u v (d u v)))) now → Put (legRecords d) 0 old n new (v + 1)
 row-put d n old now new v fits p lt e =
-    put-turned (legRecords d) 0 old n now new v (upTo v (λ u. leg u v (d u v))) (legRecords-more d v)
-    (rw (length-legRecords d (v + 1), leg-count-more v) (omega (arith, legs-before v n lt))) p lt
-    (rw (length-legRecords d v, zero-add) e)
+    put-turned (legRecords d) 0 old n now new v (upTo v (λ u. leg u v (d u v))) (in-order-more (λ x y. leg x y (d x y)) v)
+    (rw (length-in-order (λ x y. leg x y (d x y)) (v + 1), leg-count-more v) (omega (arith, legs-before v n lt))) p lt
+    (rw (length-in-order (λ x y. leg x y (d x y)) v, zero-add) e)
 
 abbrev Inv-loop : tie.InvT-loop
 Inv-loop table places out₀ v₀ out v = Put (legRecords (metresOf table)) 0 out₀ places out v
@@ -32,7 +31,7 @@ abbrev μ-loop : tie.MeasureT-loop
 μ-loop table places out₀ v₀ out v = places - v
 
 loop-holds : tie.Need-loop-holds Inv-loop μ-loop
-unfolding legRecords
+unfolding inOrder
 loop-holds c = put-begun (legRecords _) 0 _ _ refl zero-le
 
 put-to-requires : tie.Need-put-to-requires Inv-loop μ-loop

@@ -8,7 +8,8 @@ use native.Mathlib.Omega.{arith}
 use Rattle.base.specs.Lists.{upTo}
 use Rattle.base.proofs.Lists.{splice-ended}
 use Rattle.road.specs.Table.{legCount, metresOf}
-use Rattle.road.proofs.Table.{legs-counted, entry-in}
+use Rattle.road.proofs.Order.{legs-counted}
+use Rattle.road.proofs.Table.{entry-in}
 use Rattle.dayfile.specs.Legs.{leg}
 use Rattle.dayfile.proofs.codec.Laws.{Put, put-one-begun, put-one-turned}
 use Rattle.dayfile.proofs.legs.put_to.Statement.{statement}

@@ -8,7 +8,7 @@ use lib.ListN.{length, drop}
 use native.Mathlib.Omega.{arith}
 use Rattle.base.proofs.Lists.{Filled, fill-begun, fill-turned, fill-padded}
 use Rattle.road.specs.Table.{mostLegs, legCount}
-use Rattle.road.proofs.Table.{legs-counted, leg-count-most}
+use Rattle.road.proofs.Order.{legs-counted, leg-count-most}
 use Rattle.dayfile.specs.declared.codec.Record.{Record}
 use Rattle.dayfile.specs.Codec.{decode, records}
 use Rattle.dayfile.specs.Legs.{metresAt, tableOf}

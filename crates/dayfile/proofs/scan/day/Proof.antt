@@ -9,7 +9,7 @@ use native.Mathlib.Omega.{arith}
 use Rattle.base.specs.Lists.{padded}
 use Rattle.base.proofs.Lists.{padded-by}
 use Rattle.road.specs.Table.{legCount}
-use Rattle.road.proofs.Table.{legs-counted}
+use Rattle.road.proofs.Order.{legs-counted}
 use Rattle.dayfile.specs.declared.Day.{Day}
 use Rattle.dayfile.specs.declared.codec.Record.{Record}
 use Rattle.dayfile.specs.declared.scan.State.{State}

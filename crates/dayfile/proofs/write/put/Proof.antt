@@ -5,7 +5,7 @@ use borrow.Author.Needs.{needs}
 use lib.ListN.{length}
 use native.Mathlib.Omega.{arith}
 use Rattle.road.specs.Table.{legCount}
-use Rattle.road.proofs.Table.{legs-counted}
+use Rattle.road.proofs.Order.{legs-counted}
 use Rattle.dayfile.specs.Day.{dayStarts, dayRequests, DayArrays}
 use Rattle.dayfile.proofs.Limits.{enough-starts, enough-requests, length-starts, length-requests}
 use Rattle.dayfile.proofs.Outputs.{all-put}

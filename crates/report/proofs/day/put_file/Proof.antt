@@ -8,7 +8,7 @@ use lib.Seq.{length-take-le}
 use Rattle.base.specs.Numbers.{numberOf}
 use Rattle.base.proofs.Numbers.{refused-number}
 use Rattle.road.specs.Table.{mostLegs}
-use Rattle.road.proofs.Table.{legs-most}
+use Rattle.road.proofs.Order.{legs-most}
 use Rattle.dayfile.specs.File.{answer}
 use Rattle.report.specs.declared.day.Form.the-variants.{Lines, Rows}
 use Rattle.report.specs.Report.{dayIn}

@@ -6,7 +6,7 @@ use borrow.Author.Tests.{lt-leb}
 use native.Mathlib.Nat.{mul-le-mul}
 use native.Mathlib.Omega.{arith}
 use Rattle.road.specs.Table.{mostPlaces, legCount, legsOf}
-use Rattle.road.proofs.Table.{legs-counted}
+use Rattle.road.proofs.Order.{legs-counted}
 use Rattle.road.proofs.Road.legs.Statement.{statement}
 use Rattle.road.proofs.Road.legs.Tie as tie
 

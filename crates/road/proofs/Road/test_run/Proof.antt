@@ -9,7 +9,8 @@ use Rattle.base.specs.declared.Verdict.the-variants.{Accepted}
 use Rattle.base.specs.Numbers.{numberOf}
 use Rattle.base.proofs.Numbers.{goes-on, handed-up}
 use Rattle.road.specs.Table.{legCount, legsOf, placesRefusal, runRefusal}
-use Rattle.road.proofs.Table.{few-places, legs-counted}
+use Rattle.road.proofs.Order.{legs-counted}
+use Rattle.road.proofs.Table.{few-places}
 use Rattle.road.proofs.Road.test_run.Statement.{statement}
 use Rattle.road.proofs.Road.test_run.Tie as tie
 

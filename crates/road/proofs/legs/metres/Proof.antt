@@ -7,7 +7,8 @@ use lib.ListN.{getD, List·getD-eq-default}
 use native.Mathlib.Nat.{le-of-lt}
 use native.Mathlib.Omega.{arith}
 use Rattle.road.specs.Table.{Table, mostPlaces, mostLegs, legsOf, metresOf, entry}
-use Rattle.road.proofs.Table.{entry-in, entry-past, metres-up, legs-counted, leg-count-most}
+use Rattle.road.proofs.Order.{legs-counted, leg-count-most}
+use Rattle.road.proofs.Table.{entry-in, entry-past, metres-up}
 use Rattle.road.proofs.legs.metres.Statement.{statement}
 use Rattle.road.proofs.legs.metres.Tie as tie
 

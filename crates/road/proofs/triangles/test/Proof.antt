@@ -12,7 +12,8 @@ use Rattle.base.proofs.Numbers.{turns, stops-below}
 use Rattle.base.proofs.Tests.{Passed, begun, ended}
 use Rattle.road.specs.Table.{Table, metresOf, triangleRule}
 use Rattle.road.specs.Triangles.{placeRule}
-use Rattle.road.proofs.Table.{legs-before, metres-self, metres-both}
+use Rattle.road.proofs.Order.{legs-before}
+use Rattle.road.proofs.Table.{metres-self, metres-both}
 use Rattle.road.proofs.triangles.Laws.{triangles-by-sides}
 use Rattle.road.proofs.triangles.test.Statement.{statement}
 use Rattle.road.proofs.triangles.test.Tie as tie

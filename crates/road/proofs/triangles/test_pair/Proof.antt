@@ -12,7 +12,8 @@ use Rattle.base.specs.Tests.{allBelow}
 use Rattle.base.proofs.Tests.{below-same}
 use Rattle.road.specs.Table.{Table, mostPlaces, mostLegs, legCount, legsOf, metresOf}
 use Rattle.road.specs.Triangles.{sidesRule, pairRule}
-use Rattle.road.proofs.Table.{legs-counted, leg-count-most, legs-before, metres-up}
+use Rattle.road.proofs.Order.{legs-counted, leg-count-most, legs-before}
+use Rattle.road.proofs.Table.{metres-up}
 use Rattle.road.proofs.triangles.test_pair.Statement.{statement}
 use Rattle.road.proofs.triangles.test_pair.Tie as tie
 
