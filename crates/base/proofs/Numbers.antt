@@ -90,6 +90,11 @@ pub told-alike : {A : Type 0} (Alike : A → A → Type 0) (m n : ℕ) {v w : A}
 told-alike Alike zero n e values zeros = rw (← e) (values refl)
 told-alike Alike (suc m) n e values zeros = rw (← e) (zeros (suc m))
 
+-- two tests in order, the second of which is asked only where the first accepts
+pub same-tests : (s s' t t' : ℕ) → s ≡ s' → (s ≡ 0 → t ≡ t') → (s then t) ≡ (s' then t')
+same-tests zero s' t t' e same = rw (← e) (same refl)
+same-tests (suc s) s' t t' e same = rw (← e)
+
 -- a test that is known to accept, asked again, leaves the next to decide
 pub asked-again : (s t n : ℕ) → s ≡ 0 → n ≡ (s then t) → n ≡ t
 asked-again s t n e h = h ∙ ap (λ (k : ℕ). k then t) e

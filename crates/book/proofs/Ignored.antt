@@ -1,13 +1,13 @@
 -- "Entries past the counts .. are ignored on the way in": books that are the same are tested alike, and days that are the same are
 -- opened alike. Assumes nothing.
-use Prim.Native.Nat.{ℕ, zero, suc, _<_}
+use Prim.Native.Nat.{ℕ, _<_}
 use mathlib.Core.Path.{_≡_, refl, ap}
 use lib.IntN.{pos}
 use lib.ListN.{replicate}
 use Rattle.base.specs.Lists.{padded}
-use Rattle.base.specs.Numbers.{unless, _then_}
+use Rattle.base.specs.Numbers.{unless}
 use Rattle.base.proofs.Lists.{kept-same}
-use Rattle.base.proofs.Numbers.{unless-zero}
+use Rattle.base.proofs.Numbers.{unless-zero, same-tests}
 use Rattle.base.proofs.Tests.{below-same}
 use Rattle.road.specs.Table.{Table, triangleRefusal}
 use Rattle.dayfile.specs.declared.Day.{Day}
@@ -18,11 +18,6 @@ use Rattle.workfunction.proofs.Sums.{sum-same}
 use Rattle.book.specs.declared.Book.{Book}
 use Rattle.book.specs.Book.{mostStops, standsOf, stopsOf, SameBook, bookDay, bookRefusal, freshBook, freshOf}
 use Rattle.book.proofs.Vouching.{same-weights}
-
--- two tests in order, the second of which is asked only where the first accepts
-same-tests : (s s' t t' : ℕ) → s ≡ s' → (s ≡ 0 → t ≡ t') → (s then t) ≡ (s' then t')
-same-tests zero s' t t' e same = rw (← e) (same refl)
-same-tests (suc s) s' t t' e same = rw (← e)
 
 -- followers that agree below n with others
 pub same-plan : (k n : ℕ) (f g : ℕ → ℕ) → ((p : ℕ) → p < n → f p ≡ g p) → planRule k n f ≡ planRule k n g

@@ -1,16 +1,15 @@
 -- What reading a file answers, from what each of its tests found.
 -- Assumes nothing.
-use Prim.Native.Nat.{ℕ, _*_, _/_, _≤_, zero-le}
+use Prim.Native.Nat.{ℕ, _/_}
 use mathlib.Core.List.{List}
 use mathlib.Core.Path.{_≡_, refl, sym, ap, subst, _∙_}
 use lib.ListN.{length}
 use native.Mathlib.Nat.{zero-add}
-use native.Mathlib.Omega.{arith}
-use Rattle.road.specs.Table.{mostPlaces, triangleRefusal, legCount}
+use Rattle.road.specs.Table.{triangleRefusal}
 use Rattle.dayfile.specs.declared.codec.Record.{Record}
 use Rattle.dayfile.specs.declared.scan.State.{State}
 use Rattle.dayfile.specs.Codec.{records}
-use Rattle.dayfile.specs.File.{Answer, dayOf, ways, tested, refusal, answerOf, readFile}
+use Rattle.dayfile.specs.File.{dayOf, ways, tested, refusal, answerOf, readFile}
 use Rattle.dayfile.specs.Legs.{tableOf}
 use Rattle.dayfile.specs.Scan.{Scan, refused, counted, refuseAt, start, lengthRefusal, scan}
 use Rattle.dayfile.proofs.Grammar.{Run, not-refused, run-of, run-counted, run-progress}

@@ -13,7 +13,7 @@ use Rattle.base.proofs.Lists.{length-upTo, getD-upTo, map-upTo}
 use Rattle.base.specs.Numbers.{_then_}
 use Rattle.base.proofs.Numbers.{unless-zero, then-zero, then-assoc, first-of}
 use Rattle.base.proofs.Tests.{within-yes, within-least, within-most, below-at, below-all}
-use Rattle.road.specs.Table.{Table, mostPlaces, legCount, placesRule, runRefusal, legsRule, legsRefusal, triangleRefusal}
+use Rattle.road.specs.Table.{Table, mostPlaces, legCount, runRefusal, legsRule, legsRefusal, triangleRefusal}
 use Rattle.road.proofs.Table.{run-accepted, run-passes}
 use Rattle.road.proofs.Surveyed.{Surveyed, triangles-kept}
 use Rattle.dayfile.specs.declared.Day.{Day}

@@ -28,13 +28,13 @@ impl Road {
     pub fn legs(places: usize) -> usize
         ensures { λ r. ⌜ r ≡ legsOf places ⌝ }
     {
-        if Road::PLACES < places {
+        if places == 0 {
             return 0;
         }
-        if places < 1 {
-            return 0;
+        if places <= Road::PLACES {
+            return places * (places - 1) / 2;
         }
-        places * (places - 1) / 2
+        0
     }
 
     // The metres from one place to another; 0 past the most places, and past the run.

@@ -2,7 +2,7 @@
 -- and the same both ways. Assumes nothing.
 use Prim.Native.Nat.{ℕ, _+_, _<_, _≤_}
 use mathlib.Core.Bool.{Bool, true, false, _&&_, and-eq-true-iff}
-use mathlib.Core.Path.{_≡_, refl, sym, ap, _∙_}
+use mathlib.Core.Path.{_≡_, refl, sym, ap}
 use borrow.Author.Tests.{leb-true, le-leb}
 use lib.Dec.{leb}
 use native.Mathlib.Omega.{arith}

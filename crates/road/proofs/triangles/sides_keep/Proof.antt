@@ -1,7 +1,7 @@
 -- `road::triangles::sides_keep` meets its contract: each of the three legs is tested.
 -- Assumes nothing.
 use mathlib.Core.Bool.{_&&_}
-use mathlib.Core.Path.{_≡_, sym, ap₂, _∙_}
+use mathlib.Core.Path.{ap₂}
 use borrow.Author.Needs.{needs}
 use Rattle.road.specs.Triangles.{sidesRule}
 use Rattle.road.proofs.triangles.sides_keep.Statement.{statement}
