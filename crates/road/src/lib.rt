@@ -63,15 +63,15 @@ impl Road {
         Verdict::Accepted
     }
 
-    // 3 unless the number of places is within its limits and a run of that length has its legs.
-    pub fn test_run(places: usize, length: usize) -> Verdict
-        ensures { λ r. ⌜ numberOf r ≡ runRefusal places length ⌝ }
+    // 3 unless the number of places is within its limits and they have so many legs.
+    pub fn test_run(places: usize, legs: usize) -> Verdict
+        ensures { λ r. ⌜ numberOf r ≡ runRefusal places legs ⌝ }
     {
         let placed = Road::test_places(places);
         let Verdict::Accepted = placed else {
             return placed;
         };
-        if length != Road::legs(places) {
+        if legs != Road::legs(places) {
             return Verdict::Refused(Refusal::Order);
         }
         Verdict::Accepted

@@ -1,9 +1,11 @@
 -- `road::Road::legs` meets its contract: the product fits, there being at most `mostPlaces`.
 -- Assumes nothing.
-use Prim.Native.Nat.{ℕ, _-_, _*_, _≤_}
-use mathlib.Core.Path.{sym}
+use Prim.Native.Nat.{ℕ, _*_, _≤_}
+use mathlib.Core.Path.{_≡_, sym}
 use borrow.Author.Needs.{needs}
 use borrow.Author.Tests.{lt-leb}
+use mir.Syntax.{w64}
+use mir.Val.{Fits}
 use native.Mathlib.Nat.{mul-le-mul}
 use native.Mathlib.Omega.{arith}
 use Rattle.road.specs.Table.{mostPlaces, legCount}
@@ -11,8 +13,8 @@ use Rattle.road.proofs.Order.{legs-counted}
 use Rattle.road.proofs.Road.legs.Statement.{statement}
 use Rattle.road.proofs.Road.legs.Tie as tie
 
-product : (n : ℕ) → n ≤ mostPlaces → n * (n - 1) ≤ 4032
-product n h = mul-le-mul {m₂ = 63} h (omega arith)
+product : (n m : ℕ) → n ≤ mostPlaces → m ≤ mostPlaces → Fits w64 (n * m)
+product n m h l = let most : n * m ≤ 4096 = mul-le-mul h l in record { fits = omega arith }
 
 returns : tie.Need-returns
 unfolding legCount
@@ -22,7 +24,7 @@ sub-result : tie.Need-sub-result
 sub-result c = search needs
 
 mul-result : tie.Need-mul-result
-mul-result c = omega (arith, product _ (c .if2 .taken))
+mul-result c = product _ _ (omega (arith, c .if2 .taken)) (omega (arith, c .if2 .taken))
 
 returns-2 : tie.Need-returns-2
 unfolding legCount
