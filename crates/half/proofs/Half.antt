@@ -54,10 +54,10 @@ module _ (n : ℕ) (s : Square) (h : squareRefusal n s ≡ 0) where
   says = accepted n s h
 
   pub half-long : length (halfOf n s) ≡ legCount n
-  half-long = length-in-order (squareMetres s) n
+  half-long = length-in-order _ n
 
   half-leg : (u v : ℕ) → u < v → v < n → getD (halfOf n s) (legIndex u v) 0 ≡ squareMetres s u v
-  half-leg u v p q = in-order-at (squareMetres s) 0 n u v p q
+  half-leg u v p q = in-order-at _ 0 n u v p q
 
   -- "For every accepted square the half gives the same distance for every two places"
   pub half-distance : (u v : ℕ) → u < n → v < n → metresOf (halfOf n s) u v ≡ squareMetres s u v
