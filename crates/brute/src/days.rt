@@ -1,4 +1,6 @@
 // Every small day up to a size, and days drawn at random, each by the library and by the brute search, with the quoted cranes and with others.
+use crate::roads;
+use crate::roads::Square;
 use crate::search;
 use crate::sheets;
 use crate::small;
@@ -6,45 +8,57 @@ use crate::tally::Group;
 use crate::tally::Others;
 use crate::tally::Tally;
 use dayfile::Day;
-use road::Table;
 ghost use Prim.Native.Nat.{_<_};
 
-// The small day of a number too. Its table need not keep the triangle rule: then the day must be refused by 8, served and as a sheet.
-fn add(before: Group, day: Day, table: &Table, number: usize) -> Group {
-    if small::metric(table, day.places) {
-        let sides = search::day(day, table);
-        let other = search::day_by_others(day, table, number);
+// Whether a day over a run is refused by a number, served and as a sheet.
+fn refused(day: Day, run: &[u32], number: u8) -> bool {
+    let served = search::served(day, run);
+    let verdict = served.verdict;
+    (base::number(verdict) == number) & sheets::refused(sheets::write(day, run), number)
+}
+
+// Whether a day of three places with legs that break the triangle rule is refused by 8; and by 3, which comes before 8, with one leg fewer
+// and with one number more.
+fn refused_all(day: Day, square: &Square) -> bool {
+    let legs = roads::legs(square);
+    refused(day, roads::front(&legs, 3), 8)
+        & refused(day, roads::front(&legs, 2), 3)
+        & refused(day, roads::front(&legs, 4), 3)
+}
+
+// The small day of a number too. Its legs need not keep the triangle rule: then it has three places, and must be refused.
+fn add(before: Group, day: Day, square: &Square, number: usize) -> Group {
+    if small::metric(square, day.places) {
+        let sides = search::day(day, square);
+        let other = search::day_by_others(day, square, number);
         return before.add(sides.agree, other.agree, other.others);
     }
-    let served = search::served(day, table);
-    let verdict = served.verdict;
-    let refused = (base::number(verdict) == 8) & sheets::refused(sheets::write(day, table), 8);
     let quoted = before.quoted;
     let others = before.others;
     Group {
-        quoted: quoted.add(refused),
+        quoted: quoted.add(refused_all(day, square)),
         others,
     }
 }
 
-// The day of a number of a size too: with legs of metres below a bound, and with so many tables and lists of starts.
+// The day of a number of a size too: with legs of metres below a bound, and with so many squares and lists of starts.
 fn add_counted(
     before: Group,
     places: usize,
     cranes: usize,
     calls: usize,
     bound: u64,
-    tables: usize,
+    squares: usize,
     starts: usize,
     number: usize,
 ) -> Group
-    requires { ⌜ (0 < places) × ((0 < bound) × ((0 < tables) × (0 < starts))) ⌝ }
+    requires { ⌜ (0 < places) × ((0 < bound) × ((0 < squares) × (0 < starts))) ⌝ }
 {
-    let table = small::table(small::counted(number % tables), bound, false);
-    let first = small::counted(number / tables % starts);
-    let asked = small::counted(number / tables / starts);
+    let square = small::five(small::counted(number % squares), bound, false);
+    let first = small::counted(number / squares % starts);
+    let asked = small::counted(number / squares / starts);
     let day = small::day(places, cranes, calls, first, asked, places as u64);
-    add(before, day, &table, number)
+    add(before, day, &square, number)
 }
 
 // All days of a size, which are so many.
@@ -54,15 +68,15 @@ fn every(
     cranes: usize,
     calls: usize,
     bound: u64,
-    tables: usize,
+    squares: usize,
     starts: usize,
     days: usize,
 ) -> Group
-    requires { ⌜ (0 < places) × ((0 < bound) × ((0 < tables) × (0 < starts))) ⌝ }
+    requires { ⌜ (0 < places) × ((0 < bound) × ((0 < squares) × (0 < starts))) ⌝ }
 {
     let mut group = before;
     for i in 0..days {
-        group = add_counted(group, places, cranes, calls, bound, tables, starts, i);
+        group = add_counted(group, places, cranes, calls, bound, squares, starts, i);
     }
     group
 }
@@ -113,10 +127,10 @@ fn counted(drawn: Drawn, tied: bool, agree: bool, others: Others) -> Drawn {
 fn add_drawn(before: Drawn, places: usize, cranes: usize, bound: u64, number: usize) -> Drawn
     requires { ⌜ (0 < places) × (0 < bound) ⌝ }
 {
-    let table = small::drawn_table(number, places, bound, false);
+    let square = small::drawn_square(number, places, bound, false);
     let day = small::drawn_day(number, places, cranes, 6);
-    let sides = search::day(day, &table);
-    let other = search::day_by_others(day, &table, number);
+    let sides = search::day(day, &square);
+    let other = search::day_by_others(day, &square, number);
     let others = before.others;
     counted(
         before,

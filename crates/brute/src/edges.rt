@@ -1,18 +1,19 @@
 // Days with every figure: document 01's edges and case A, those of paper 1, and days that show where a shorter method goes wrong.
+use crate::roads;
+use crate::roads::Square;
 use crate::search;
 use crate::small;
 use crate::tally::Group;
 use dayfile::Day;
 use libc::STDOUT_FILENO;
-use road::Table;
 
 // The records of three legs, three cranes and three calls.
 const ROOM: usize = 108;
 
 // Prints what the program tells of a day.
-fn tell(day: Day, table: Table) {
+fn tell(day: Day, run: &[u32]) {
     let mut file = [0; ROOM];
-    let written = day.write(table, &mut file);
+    let written = day.write(run, &mut file);
     let length = written.length;
     if ROOM < length {
         return;
@@ -23,11 +24,11 @@ fn tell(day: Day, table: Table) {
     io::write_all(STDOUT_FILENO, &text[..end]);
 }
 
-// A day of three legs, with so many cranes and calls, their places the digits of a number, the first the last digit. Prints what the
-// program tells of it, and counts whether the brute search finds the same, by the quoted cranes and by others.
+// A day over a square of three legs, with so many cranes and calls, their places the digits of a number, the first the last digit. Prints
+// what the program tells of it, and counts whether the brute search finds the same, by the quoted cranes and by others.
 fn edge(
     before: Group,
-    table: Table,
+    square: Square,
     places: usize,
     cranes: usize,
     starts: usize,
@@ -42,10 +43,11 @@ fn edge(
         small::counted(asked),
         10,
     );
-    tell(day, table);
-    let sides = search::day(day, &table);
+    let legs = roads::legs(&square);
+    tell(day, roads::run(&legs, places));
+    let sides = search::day(day, &square);
     let quoted = before.quoted;
-    let other = search::day_by_others(day, &table, quoted.tried as usize);
+    let other = search::day_by_others(day, &square, quoted.tried as usize);
     before.add(sides.agree, other.agree, other.others)
 }
 

@@ -11,6 +11,7 @@ mod nets;
 mod past;
 mod positions;
 mod restored;
+mod roads;
 mod search;
 mod sheets;
 mod small;

@@ -1,13 +1,15 @@
-// Entries past the counts: random days, and the books that grow from them, with numbers there that break every rule, in every array and
-// in the table; beside the brute search, and beside the same day without them.
+// Entries past the counts: random days, and the books that grow from them, with numbers there that break every rule, in every array;
+// beside the brute search, and beside the same day without them. A run with a number past its legs, or one fewer, is refused.
 use crate::positions;
+use crate::positions::Size;
+use crate::roads;
+use crate::roads::Square;
 use crate::search;
 use crate::small;
 use crate::tally::Tally;
 use book::Book;
 use dayfile::Day;
-use road::Road;
-use road::Table;
+use dispatch::Dispatch;
 ghost use Prim.Native.Nat.{_+_, _<_};
 ghost use Rattle.dayfile.specs.Day.{mostCranes, mostCalls};
 ghost use Rattle.book.specs.Book.{mostStops};
@@ -18,7 +20,7 @@ const STOP: u16 = 65_535;
 // No weight within the range.
 const WEIGHT: i64 = -Book::WEIGHT - 1;
 
-// No leg and no metres of a crane within the limit.
+// No metres of a crane within the limit.
 const METRES: u32 = 4_294_967_295;
 
 // Such places or followers from an index on.
@@ -46,19 +48,6 @@ fn spoil_driven(driven: &mut [u32], from: usize) {
         driven[i] = METRES;
         i += 1;
     }
-}
-
-// A table with such metres past its places, in their rows and in the rows past them.
-fn spoiled_table(table: Table, places: usize) -> Table {
-    let mut other = table;
-    for code in 0..Road::PLACES * Road::PLACES {
-        let from = code / Road::PLACES;
-        let to = code % Road::PLACES;
-        if (places <= from) | (places <= to) {
-            other[from][to] = METRES;
-        }
-    }
-    other
 }
 
 // A day with such places past its counts.
@@ -161,39 +150,74 @@ fn same(a: Book, b: Book) -> bool {
 // The records of ten legs, four cranes and six calls.
 const ROOM: usize = 240;
 
-// Whether two days with their tables are written alike, into buffers with the same before.
-fn written_alike(a: Day, b: Day, first: Table, second: Table) -> bool {
+// Whether two days over a run are written alike, into buffers with the same before.
+fn written_alike(a: Day, b: Day, run: &[u32]) -> bool {
     let mut one = [9; ROOM];
     let mut other = [9; ROOM];
-    let told = a.write(first, &mut one);
-    let again = b.write(second, &mut other);
+    let told = a.write(run, &mut one);
+    let again = b.write(run, &mut other);
     (told.length == again.length) & check::same(&one, &other)
 }
 
-// A random day of so many calls and one more: every figure and the sheet are the search's, the last call is served from a book with such
-// entries, and the book after it and the file are those of the day without them.
-fn agrees(size: positions::Size, day: Day, table: Table, place: u16) -> bool {
-    let wild = spoiled_table(table, size.places);
-    let plain = search::call(&table, size, search::day(day, &table), place, 0);
-    let mut sides = search::day(spoiled_day(day), &wild);
+// Whether whatever is asked of a book over a run is refused by 3.
+fn refused(book: Book, places: usize, run: &[u32], place: u16) -> bool {
+    let costs = Dispatch::costs(book, places, run).verdict;
+    let nets = Dispatch::net_costs(book, places, run, place).verdict;
+    let quote = Dispatch::quote(book, places, run, place).verdict;
+    let commit = Dispatch::commit(book, places, run, place, 0).verdict;
+    (base::number(costs) == 3)
+        & (base::number(nets) == 3)
+        & (base::number(quote) == 3)
+        & (base::number(commit) == 3)
+}
+
+// The same over a run of one number more than so many, and of one fewer.
+fn lengths_refused(book: Book, places: usize, legs: &[u32], count: usize, place: u16) -> bool {
+    let more = roads::front(legs, std::num::wrapping_add_usize(count, 1));
+    let fewer = roads::front(legs, std::num::wrapping_sub_usize(count, 1));
+    refused(book, places, more, place) & refused(book, places, fewer, place)
+}
+
+// A day of so many calls and one more: every figure and the sheet are the search's, the last call is served from a book with such
+// entries, and the book after it and the file are those of the day without them; over a run of another length nothing is answered.
+fn agrees(size: Size, day: Day, square: &Square, legs: &[u32], place: u16) -> bool {
+    let run = roads::run(legs, size.places);
+    let plain = search::call(square, run, size, search::day(day, square), place, 0);
+    let mut sides = search::day(spoiled_day(day), square);
     sides.book = spoiled_book(sides.book);
-    let last = search::call(&wild, size, search::agreed(&wild, size, sides), place, 0);
+    let standing = search::agreed(square, run, size, sides);
+    let last = search::call(square, run, size, standing, place, 0);
     plain.agree
         & last.agree
         & same(plain.book, last.book)
-        & written_alike(day, spoiled_day(day), table, wild)
+        & written_alike(day, spoiled_day(day), run)
+        & lengths_refused(sides.book, size.places, legs, run.len(), place)
+}
+
+// The same of the random day of a number.
+fn drawn_agrees(number: usize, places: usize, cranes: usize, calls: usize) -> bool
+    requires { ⌜ 0 < places ⌝ }
+{
+    let day = small::drawn_day(number, places, cranes, calls);
+    let square = small::drawn_square(number, places, 1_000, false);
+    let legs = roads::legs(&square);
+    let size = positions::size_of(places, cranes);
+    agrees(
+        size,
+        day,
+        &square,
+        &legs,
+        small::drawn_place(number, places),
+    )
 }
 
 // Forty days of a size too.
 fn some(before: Tally, places: usize, cranes: usize, calls: usize) -> Tally
     requires { ⌜ 0 < places ⌝ }
 {
-    let size = positions::size_of(places, cranes);
     let mut tally = before;
     for i in 0..40 {
-        let table = small::drawn_table(i, places, 1_000, false);
-        let day = small::drawn_day(i, places, cranes, calls);
-        tally = tally.add(agrees(size, day, table, small::drawn_place(i, places)));
+        tally = tally.add(drawn_agrees(i, places, cranes, calls));
     }
     tally
 }

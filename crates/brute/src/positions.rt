@@ -1,8 +1,8 @@
-// The work function by its definition: a search over all positions, call by call. It reads the road table and shares nothing with
-// `book`: it has no plan and no weights.
+// The work function by its definition: a search over all positions, call by call. It reads the square of metres and shares nothing
+// with `road` and `book`: it has no run of legs, no plan and no weights.
+use crate::roads;
+use crate::roads::Square;
 use dayfile::Day;
-use road::Road;
-use road::Table;
 
 // As many as there are lists of four of five places, the most cranes and places of a day that is searched.
 pub(crate) const POSITIONS: usize = 625;
@@ -88,16 +88,16 @@ pub(crate) fn with(position: Position, slot: usize, place: u16) -> Position {
 }
 
 // The metres between two places.
-pub(crate) fn way(table: &Table, from: usize, to: usize) -> u64 {
-    Road::metres(table, from, to) as u64
+pub(crate) fn way(square: &Square, from: usize, to: usize) -> u64 {
+    roads::metres(square, from, to) as u64
 }
 
 // The sum of the ways of one pairing.
-fn paired(table: &Table, cranes: usize, a: Position, b: Position, pairing: u32) -> u64 {
+fn paired(square: &Square, cranes: usize, a: Position, b: Position, pairing: u32) -> u64 {
     let mut sum = 0;
     let mut slots = pairing as usize;
     for slot in 0..cranes {
-        let metres = way(table, at(a, slot), at(b, slots % 16));
+        let metres = way(square, at(a, slot), at(b, slots % 16));
         sum = std::num::wrapping_add_u64(sum, metres);
         slots = slots / 16;
     }
@@ -105,10 +105,10 @@ fn paired(table: &Table, cranes: usize, a: Position, b: Position, pairing: u32) 
 }
 
 // The distance of two positions: the least over all pairings.
-fn distance(table: &Table, size: Size, a: Position, b: Position) -> u64 {
+fn distance(square: &Square, size: Size, a: Position, b: Position) -> u64 {
     let mut least = FAR;
     for i in 0..size.pairings {
-        least = lesser(least, paired(table, size.cranes, a, b, PAIRINGS[i % 24]));
+        least = lesser(least, paired(square, size.cranes, a, b, PAIRINGS[i % 24]));
     }
     least
 }
@@ -173,12 +173,12 @@ pub(crate) fn begin(cranes: usize, starts: Position) -> Reached {
 
 // The lesser of a cost and the work function at an end: the least, over all positions that movements have come to, of the cost so far and
 // the distance. A position whose cost so far is no less than the least found is passed over.
-fn work_below(table: &Table, size: Size, reached: &Reached, end: Position, most: u64) -> u64 {
+fn work_below(square: &Square, size: Size, reached: &Reached, end: Position, most: u64) -> u64 {
     let mut least = most;
     for code in 0..size.codes {
         let so_far = reached[code % POSITIONS];
         if so_far < least {
-            let more = distance(table, size, position(code), end);
+            let more = distance(square, size, position(code), end);
             least = lesser(least, std::num::wrapping_add_u64(so_far, more));
         }
     }
@@ -186,28 +186,28 @@ fn work_below(table: &Table, size: Size, reached: &Reached, end: Position, most:
 }
 
 // The work function at an end.
-pub(crate) fn work_at(table: &Table, size: Size, reached: &Reached, end: Position) -> u64 {
-    work_below(table, size, reached, end, FAR)
+pub(crate) fn work_at(square: &Square, size: Size, reached: &Reached, end: Position) -> u64 {
+    work_below(square, size, reached, end, FAR)
 }
 
 // One call more: every position that contains its place.
-pub(crate) fn serve(table: &Table, size: Size, reached: &Reached, place: u16) -> Reached {
+pub(crate) fn serve(square: &Square, size: Size, reached: &Reached, place: u16) -> Reached {
     let mut next = [FAR; POSITIONS];
     for code in 0..size.codes {
         let p = position(code);
         if listed(size.places, code) & holds(size.cranes, p, place) {
-            next[code % POSITIONS] = work_at(table, size, reached, p);
+            next[code % POSITIONS] = work_at(square, size, reached, p);
         }
     }
     next
 }
 
 // The floor: the least of the work function over all ends.
-pub(crate) fn floor(table: &Table, size: Size, reached: &Reached) -> u64 {
+pub(crate) fn floor(square: &Square, size: Size, reached: &Reached) -> u64 {
     let mut least = FAR;
     for code in 0..size.codes {
         if listed(size.places, code) {
-            least = work_below(table, size, reached, position(code), least);
+            least = work_below(square, size, reached, position(code), least);
         }
     }
     least
@@ -237,7 +237,7 @@ fn preferred(first: Sent, second: Sent) -> Sent {
 
 // The work function at the stands with each crane in its turn moved to the place of a call, where `reached` has the call as its last.
 pub(crate) fn leasts(
-    table: &Table,
+    square: &Square,
     size: Size,
     reached: &Reached,
     stands: Position,
@@ -245,20 +245,20 @@ pub(crate) fn leasts(
 ) -> Leasts {
     let mut leasts = [0; Day::CRANES];
     for crane in 0..size.cranes {
-        leasts[crane % Day::CRANES] = work_at(table, size, reached, with(stands, crane, place));
+        leasts[crane % Day::CRANES] = work_at(square, size, reached, with(stands, crane, place));
     }
     leasts
 }
 
 // What sending a crane costs.
 pub(crate) fn sending(
-    table: &Table,
+    square: &Square,
     leasts: Leasts,
     stands: Position,
     place: u16,
     crane: usize,
 ) -> Sent {
-    let metres = way(table, at(stands, crane), place as usize);
+    let metres = way(square, at(stands, crane), place as usize);
     let least = leasts[crane % Day::CRANES];
     Sent {
         crane,
@@ -271,15 +271,15 @@ pub(crate) fn sending(
 
 // The choice among all cranes.
 pub(crate) fn choose(
-    table: &Table,
+    square: &Square,
     cranes: usize,
     leasts: Leasts,
     stands: Position,
     place: u16,
 ) -> Sent {
-    let mut best = sending(table, leasts, stands, place, 0);
+    let mut best = sending(square, leasts, stands, place, 0);
     for crane in 1..cranes {
-        best = preferred(best, sending(table, leasts, stands, place, crane));
+        best = preferred(best, sending(square, leasts, stands, place, crane));
     }
     best
 }

@@ -1,12 +1,13 @@
 // Books that come back with other weights that vouch: stretched together with the legs, and shifted towards the ends of their range.
 use crate::positions;
 use crate::positions::Size;
+use crate::roads;
+use crate::roads::Square;
 use crate::search;
 use crate::search::Sides;
 use crate::small;
 use crate::tally::Group;
 use book::Book;
-use road::Table;
 ghost use Prim.Native.Nat.{_<_};
 
 // No weight of a small day is more than this, nor less than its opposite.
@@ -43,12 +44,14 @@ fn restored(book: Book, shift: i64) -> Book {
 
 // One call more over these legs, where the book of the sides comes back with its weights doubled and shifted: by the quoted crane, and by
 // the next one.
-fn add(before: Group, table: &Table, size: Size, sides: Sides, place: u16, shift: i64) -> Group {
+fn add(before: Group, square: &Square, size: Size, sides: Sides, place: u16, shift: i64) -> Group {
+    let legs = roads::legs(square);
+    let run = roads::run(&legs, size.places);
     let mut back = sides;
     back.book = restored(sides.book, shift);
-    let standing = search::agreed(table, size, back);
-    let last = search::call(table, size, standing, place, 0);
-    let other = search::call(table, size, standing, place, 1);
+    let standing = search::agreed(square, run, size, back);
+    let last = search::call(square, run, size, standing, place, 0);
+    let other = search::call(square, run, size, standing, place, 1);
     before.add(last.agree, other.agree, other.others)
 }
 
@@ -59,10 +62,10 @@ fn add_day(before: Group, number: usize, places: usize, cranes: usize) -> Group
 {
     let place = small::drawn_place(number, places);
     let size = positions::size_of(places, cranes);
-    let table = small::drawn_table(number, places, 1_000, false);
-    let wide = small::drawn_table(number, places, 1_000, true);
+    let square = small::drawn_square(number, places, 1_000, false);
+    let wide = small::drawn_square(number, places, 1_000, true);
     let day = small::drawn_day(number, places, cranes, 5);
-    let plain = search::day(day, &table);
+    let plain = search::day(day, &square);
     let mut sides = search::day(day, &wide);
     let book = plain.book;
     sides.book = book;

@@ -9,6 +9,8 @@ use crate::positions::Position;
 use crate::positions::Reached;
 use crate::positions::Sent;
 use crate::positions::Size;
+use crate::roads;
+use crate::roads::Square;
 use crate::sheets;
 use crate::sheets::Posted;
 use crate::small;
@@ -18,7 +20,6 @@ use dayfile::Day;
 use dispatch::Dispatch;
 use dispatch::Quote;
 use dispatch::ServedDay;
-use road::Table;
 ghost use Prim.Native.Nat.{_<_};
 
 // The most calls of a small day.
@@ -65,15 +66,15 @@ pub struct Followed {
 }
 
 // The same sides, with the floor that the search finds; they agree if they did and the book's costs are the search's.
-pub(crate) fn agreed(table: &Table, size: Size, sides: Sides) -> Sides {
+pub(crate) fn agreed(square: &Square, run: &[u32], size: Size, sides: Sides) -> Sides {
     let book = sides.book;
-    let costs = Dispatch::costs(book, size.places, *table);
+    let costs = Dispatch::costs(book, size.places, run);
     let verdict = costs.verdict;
     let mut desk = sides.desk;
     let reached = desk.reached;
     let stands = desk.stands;
-    let floor = positions::floor(table, size, &reached);
-    let least = positions::work_at(table, size, &reached, stands);
+    let floor = positions::floor(square, size, &reached);
+    let least = positions::work_at(square, size, &reached, stands);
     let same = (base::number(verdict) == 0) & (costs.least == least) & (costs.floor == floor);
     desk.floor = floor;
     let sent = sides.sent;
@@ -88,7 +89,7 @@ pub(crate) fn agreed(table: &Table, size: Size, sides: Sides) -> Sides {
 }
 
 // Before the first call, over a book without calls.
-fn begin(table: &Table, size: Size, book: Book) -> Sides {
+fn begin(square: &Square, run: &[u32], size: Size, book: Book) -> Sides {
     let starts = book.starts;
     let drives = [0; Day::CRANES];
     let desk = Desk {
@@ -113,23 +114,23 @@ fn begin(table: &Table, size: Size, book: Book) -> Sides {
         tied: false,
         others: 0,
     };
-    agreed(table, size, sides)
+    agreed(square, run, size, sides)
 }
 
 // What is asked at a call: of the library, and of the search.
-fn asked(table: &Table, size: Size, sides: Sides, place: u16) -> Answers {
+fn asked(square: &Square, run: &[u32], size: Size, sides: Sides, place: u16) -> Answers {
     let book = sides.book;
     let desk = sides.desk;
     let before = desk.reached;
     let stands = desk.stands;
-    let reached = positions::serve(table, size, &before, place);
-    let leasts = positions::leasts(table, size, &reached, stands, place);
-    let present = positions::work_at(table, size, &before, stands);
-    let told = Dispatch::net_costs(book, size.places, *table, place);
-    let sent = positions::choose(table, size.cranes, leasts, stands, place);
+    let reached = positions::serve(square, size, &before, place);
+    let leasts = positions::leasts(square, size, &reached, stands, place);
+    let present = positions::work_at(square, size, &before, stands);
+    let told = Dispatch::net_costs(book, size.places, run, place);
+    let sent = positions::choose(square, size.cranes, leasts, stands, place);
     Answers {
         netted: nets::alike(told, size.cranes, present, leasts),
-        quote: Dispatch::quote(book, size.places, *table, place),
+        quote: Dispatch::quote(book, size.places, run, place),
         sent,
         leasts,
         reached,
@@ -164,7 +165,8 @@ fn gone(before: Desk, reached: Reached, sent: Sent, place: u16) -> Desk {
 
 // What is done at it: the crane so many numbers behind the quoted one is committed, and the desk follows it.
 fn done(
-    table: &Table,
+    square: &Square,
+    run: &[u32],
     size: Size,
     sides: Sides,
     answers: Answers,
@@ -180,8 +182,8 @@ fn done(
     let stands = before.stands;
     let reached = answers.reached;
     let leasts = answers.leasts;
-    let moved = positions::sending(table, leasts, stands, place, crane);
-    let commit = Dispatch::commit(sides.book, size.places, *table, place, crane);
+    let moved = positions::sending(square, leasts, stands, place, crane);
+    let commit = Dispatch::commit(sides.book, size.places, run, place, crane);
     let committed = commit.verdict;
     let accepted = (base::number(quoted) == 0) & (base::number(committed) == 0);
     let book = commit.book;
@@ -199,12 +201,20 @@ fn done(
 }
 
 // One call more, on both sides.
-pub(crate) fn call(table: &Table, size: Size, sides: Sides, place: u16, behind: u64) -> Sides {
-    let answers = asked(table, size, sides, place);
+pub(crate) fn call(
+    square: &Square,
+    run: &[u32],
+    size: Size,
+    sides: Sides,
+    place: u16,
+    behind: u64,
+) -> Sides {
+    let answers = asked(square, run, size, sides, place);
     agreed(
-        table,
+        square,
+        run,
         size,
-        done(table, size, sides, answers, place, behind),
+        done(square, run, size, sides, answers, place, behind),
     )
 }
 
@@ -217,7 +227,14 @@ fn line(served: ServedDay, i: usize, sent: Sent) -> bool
 }
 
 // Every call of a small day, each by the crane so many numbers behind the quoted one as the source tells.
-fn calls(day: Day, table: &Table, size: Size, first: Sides, cranes: Source) -> Followed {
+fn calls(
+    day: Day,
+    square: &Square,
+    run: &[u32],
+    size: Size,
+    first: Sides,
+    cranes: Source,
+) -> Followed {
     let requests = day.requests;
     let mut sides = first;
     let mut from = cranes;
@@ -225,7 +242,7 @@ fn calls(day: Day, table: &Table, size: Size, first: Sides, cranes: Source) -> F
     let mut sents = [before; CALLS];
     for i in 0..CALLS {
         if i < day.calls {
-            sides = call(table, size, sides, requests[i], from.rest % ROUND);
+            sides = call(square, run, size, sides, requests[i], from.rest % ROUND);
             let sent = sides.sent;
             sents[i] = sent;
             from = small::behind(from, ROUND);
@@ -235,15 +252,22 @@ fn calls(day: Day, table: &Table, size: Size, first: Sides, cranes: Source) -> F
 }
 
 // A small day from its fresh book, by such cranes: all net costs, every quote, every commit and every pair of costs.
-fn follow(day: Day, table: &Table, cranes: Source) -> Followed {
+fn follow(day: Day, square: &Square, run: &[u32], cranes: Source) -> Followed {
     let size = positions::size_of(day.places, day.cranes);
-    let opening = Book::fresh(day, *table);
-    calls(day, table, size, begin(table, size, opening.book), cranes)
+    let opening = Book::fresh(day, run);
+    calls(
+        day,
+        square,
+        run,
+        size,
+        begin(square, run, size, opening.book),
+        cranes,
+    )
 }
 
 // What the library tells of a whole day.
-pub(crate) fn served(day: Day, table: &Table) -> ServedDay {
-    Dispatch::serve_day(day, *table)
+pub(crate) fn served(day: Day, run: &[u32]) -> ServedDay {
+    Dispatch::serve_day(day, run)
 }
 
 // Whether the served day and the sheet tell the same of every call.
@@ -260,20 +284,28 @@ fn lines(day: Day, sents: [Sent; CALLS], served: ServedDay, posted: Posted) -> b
 }
 
 // A small day by the quoted cranes, beside the served day and the sheet.
-pub(crate) fn day(day: Day, table: &Table) -> Sides {
-    let followed = follow(day, table, small::counted(0));
+fn quoted(day: Day, square: &Square, run: &[u32]) -> Sides {
+    let followed = follow(day, square, run, small::counted(0));
     let sents = followed.sents;
     let mut sides = followed.sides;
-    let told = served(day, table);
-    let posted = sheets::write(day, table);
+    let told = served(day, run);
+    let posted = sheets::write(day, run);
     let rows = lines(day, sents, told, posted) & sheets::ends(posted, day.calls);
     let sums = (told.driven == sides.desk.driven) & (told.floor == sides.desk.floor);
     sides.agree = sides.agree & rows & sums;
     sides
 }
 
+// The same over the legs of the square.
+pub(crate) fn day(day: Day, square: &Square) -> Sides {
+    let legs = roads::legs(square);
+    quoted(day, square, roads::run(&legs, day.places))
+}
+
 // The small day of a number by cranes drawn from it.
-pub(crate) fn day_by_others(day: Day, table: &Table, number: usize) -> Sides {
-    let followed = follow(day, table, small::drawn_cranes(number));
+pub(crate) fn day_by_others(day: Day, square: &Square, number: usize) -> Sides {
+    let legs = roads::legs(square);
+    let run = roads::run(&legs, day.places);
+    let followed = follow(day, square, run, small::drawn_cranes(number));
     followed.sides
 }

@@ -2,7 +2,6 @@
 // the row, which shares nothing with how `sheet` writes one.
 use crate::positions::Sent;
 use dayfile::Day;
-use road::Table;
 ghost use Prim.Native.Nat.{_<_};
 
 // The bytes of a row.
@@ -58,9 +57,9 @@ pub struct Posted {
 }
 
 // The sheet of a small day, into a buffer with bytes to spare.
-pub(crate) fn write(day: Day, table: &Table) -> Posted {
+pub(crate) fn write(day: Day, run: &[u32]) -> Posted {
     let mut bytes = [BEFORE; ROOM];
-    let written = sheet::write(day, *table, &mut bytes);
+    let written = sheet::write(day, run, &mut bytes);
     let verdict = written.verdict;
     Posted {
         number: base::number(verdict),

@@ -1,12 +1,12 @@
-// Small days: their tables and stops, from the digits of a number or drawn at random.
+// Small days: their squares and stops, from the digits of a number or drawn at random.
 use crate::positions;
+use crate::roads;
+use crate::roads::LEGS;
+use crate::roads::Leg;
+use crate::roads::PLACES;
+use crate::roads::Square;
 use dayfile::Day;
-use road::Road;
-use road::Table;
 ghost use Prim.Native.Nat.{_<_};
-
-// The legs of five places.
-const LEGS: usize = 10;
 
 // As many as there are triples of five places.
 const TRIPLES: usize = 125;
@@ -53,47 +53,44 @@ pub(crate) fn behind(source: Source, bound: u64) -> Source
     }
 }
 
-// A table with another leg, one way.
-fn set(table: Table, from: usize, to: usize, metres: u32) -> Table {
-    let mut other = table;
-    if from < Road::PLACES {
-        if to < Road::PLACES {
-            other[from][to] = metres;
-        }
-    }
+// A square with other metres from one place to another.
+fn set(square: Square, from: usize, to: usize, metres: u32) -> Square {
+    let mut other = square;
+    other[from % PLACES][to % PLACES] = metres;
     other
 }
 
-// The table of three places with these legs.
-pub(crate) fn three(first: u32, second: u32, third: u32) -> Table {
-    let one = leg([[0; Road::PLACES]; Road::PLACES], 0, 1, first);
-    leg(leg(one, 0, 2, second), 1, 2, third)
+// A square with another leg, both ways.
+fn with(square: Square, leg: Leg, metres: u32) -> Square {
+    set(
+        set(square, leg.first, leg.second, metres),
+        leg.second,
+        leg.first,
+        metres,
+    )
 }
 
-// A table with another leg, both ways.
-fn leg(table: Table, from: usize, to: usize, metres: u32) -> Table {
-    set(set(table, from, to, metres), to, from, metres)
+// Three places with these legs, in the order of a file.
+pub(crate) fn three(first: u32, second: u32, third: u32) -> Square {
+    let one = with([[0; PLACES]; PLACES], roads::FIRST, first);
+    let two = with(one, roads::next(roads::FIRST), second);
+    with(two, roads::next(roads::next(roads::FIRST)), third)
 }
 
 // Five places with legs from a source, each of metres below a bound or of twice as many.
-pub(crate) fn table(source: Source, bound: u64, twice: bool) -> Table
+pub(crate) fn five(source: Source, bound: u64, twice: bool) -> Square
     requires { ⌜ 0 < bound ⌝ }
 {
-    let mut table = [[0; Road::PLACES]; Road::PLACES];
+    let mut square = [[0; PLACES]; PLACES];
     let mut from = source;
-    let mut first = 0;
-    let mut second = 1;
+    let mut leg = roads::FIRST;
     for _ in 0..LEGS {
-        let longer = leg(table, first, second, metres(from.rest % bound, twice));
-        table = longer;
+        let longer = with(square, leg, metres(from.rest % bound, twice));
+        square = longer;
         from = behind(from, bound);
-        first = std::num::wrapping_add_usize(first, 1);
-        if first == second {
-            first = 0;
-            second = std::num::wrapping_add_usize(second, 1);
-        }
+        leg = roads::next(leg);
     }
-    table
+    square
 }
 
 // A number as metres, or twice as many.
@@ -103,26 +100,26 @@ fn metres(number: u64, twice: bool) -> u32 {
 }
 
 // The metres of the way by a third place.
-fn around(table: &Table, from: usize, by: usize, to: usize) -> u64 {
+fn around(square: &Square, from: usize, by: usize, to: usize) -> u64 {
     std::num::wrapping_add_u64(
-        positions::way(table, from, by),
-        positions::way(table, by, to),
+        positions::way(square, from, by),
+        positions::way(square, by, to),
     )
 }
 
 // Whether no way by a third place is shorter than a leg, of at most three places.
-pub(crate) fn metric(table: &Table, places: usize) -> bool {
+pub(crate) fn metric(square: &Square, places: usize) -> bool {
     (places < 3)
-        | ((positions::way(table, 0, 1) <= around(table, 0, 2, 1))
-            & (positions::way(table, 0, 2) <= around(table, 0, 1, 2))
-            & (positions::way(table, 1, 2) <= around(table, 1, 0, 2)))
+        | ((positions::way(square, 0, 1) <= around(square, 0, 2, 1))
+            & (positions::way(square, 0, 2) <= around(square, 0, 1, 2))
+            & (positions::way(square, 1, 2) <= around(square, 1, 0, 2)))
 }
 
-// The table of the shortest ways: third place by third place, every leg that a way by it undercuts.
-fn closed(table: Table, places: usize) -> Table
+// The square of the shortest ways: third place by third place, every leg that a way by it undercuts.
+fn closed(square: Square, places: usize) -> Square
     requires { ⌜ 0 < places ⌝ }
 {
-    let mut short = table;
+    let mut short = square;
     for code in 0..TRIPLES {
         let by = code / places / places % places;
         let shorter = by_way(short, code % places, by, code / places % places);
@@ -131,13 +128,13 @@ fn closed(table: Table, places: usize) -> Table
     short
 }
 
-// A table with one leg that is at most the way by a third place.
-fn by_way(table: Table, from: usize, by: usize, to: usize) -> Table {
-    let metres = around(&table, from, by, to);
-    if metres < positions::way(&table, from, to) {
-        return set(table, from, to, (metres % 4_294_967_296) as u32);
+// A square whose metres from one place to another are at most those of the way by a third.
+fn by_way(square: Square, from: usize, by: usize, to: usize) -> Square {
+    let metres = around(&square, from, by, to);
+    if metres < positions::way(&square, from, to) {
+        return set(square, from, to, (metres % 4_294_967_296) as u32);
     }
-    table
+    square
 }
 
 // So many numbers below a bound, from a source to the front of a list, and zeros behind them.
@@ -182,10 +179,10 @@ pub(crate) fn day(
 }
 
 // The shortest ways of a random day, over legs of metres below a bound or of twice as many.
-pub(crate) fn drawn_table(number: usize, places: usize, bound: u64, twice: bool) -> Table
+pub(crate) fn drawn_square(number: usize, places: usize, bound: u64, twice: bool) -> Square
     requires { ⌜ (0 < places) × (0 < bound) ⌝ }
 {
-    closed(table(drawn(number, 1), bound, twice), places)
+    closed(five(drawn(number, 1), bound, twice), places)
 }
 
 // The starts and calls of a random day.

@@ -4,10 +4,8 @@ use crate::days;
 use crate::entries;
 use crate::line;
 use crate::nets;
-use crate::tables;
 use book::Book;
 use dispatch::Dispatch;
-use road::Table;
 
 // No place and no follower.
 const STOP: u16 = 65_535;
@@ -35,7 +33,7 @@ fn ungrown(book: Book) -> Grown {
 }
 
 // One call more.
-fn grow(before: Grown, table: Table, place: u16) -> Grown {
+fn grow(before: Grown, table: &[u32], place: u16) -> Grown {
     let quote = Dispatch::quote(before.book, 3, table, place);
     let commit = Dispatch::commit(before.book, 3, table, place, quote.crane);
     let quoted = quote.verdict;
@@ -49,7 +47,7 @@ fn grow(before: Grown, table: Table, place: u16) -> Grown {
 }
 
 // A book of case A with 256 calls. Prints how many quotes and how many commits were accepted.
-pub(crate) fn filled(fresh: Book, table: Table) -> Book {
+pub(crate) fn filled(fresh: Book, table: &[u32]) -> Book {
     let mut grown = ungrown(fresh);
     for i in 0..Book::CALLS {
         grown = grow(grown, table, (i % 3) as u16);
@@ -60,7 +58,7 @@ pub(crate) fn filled(fresh: Book, table: Table) -> Book {
 }
 
 // Prints the net costs of a call at a place: the number, those of cranes 0 and 1, and whether all past them are 0, 1 or 0.
-fn net_costs(book: Book, table: Table, place: u16) {
+fn net_costs(book: Book, table: &[u32], place: u16) {
     let told = Dispatch::net_costs(book, 3, table, place);
     let verdict = told.verdict;
     line::verdict(verdict);
@@ -71,7 +69,7 @@ fn net_costs(book: Book, table: Table, place: u16) {
 }
 
 // Prints the quote of a call at place 1: the number, the crane, the metres and the least.
-fn quote(book: Book, table: Table) {
+fn quote(book: Book, table: &[u32]) {
     let quote = Dispatch::quote(book, 3, table, 1);
     let verdict = quote.verdict;
     line::verdict(verdict);
@@ -82,7 +80,7 @@ fn quote(book: Book, table: Table) {
 }
 
 // Prints the commit of a crane to a call at a place: the number, the least, and the least of the costs of the book that it returns.
-fn commit(book: Book, table: Table, place: u16, crane: usize) -> Book {
+fn commit(book: Book, table: &[u32], place: u16, crane: usize) -> Book {
     let commit = Dispatch::commit(book, 3, table, place, crane);
     let verdict = commit.verdict;
     line::verdict(verdict);
@@ -100,7 +98,7 @@ fn spoiled(book: Book) -> Book {
 
 // The same of a commit to place 1 of such a book. Prints also whether the book returned is the one returned without them, and whether it has
 // 0 past its counts, 1 or 0.
-fn commit_padded(book: Book, table: Table, crane: usize) {
+fn commit_padded(book: Book, table: &[u32], crane: usize) {
     let plain = Dispatch::commit(book, 3, table, 1, crane);
     let after = commit(spoiled(book), table, 1, crane);
     line::number(entries::same(plain.book, after) as u64);
@@ -108,8 +106,8 @@ fn commit_padded(book: Book, table: Table, crane: usize) {
     line::comma();
 }
 
-// The book before the last call.
-fn before_last(table: Table) -> Book {
+// The book before the last call, over the legs of case A.
+fn before_last(table: &[u32]) -> Book {
     let opening = Book::fresh(days::day(3, 2, 3, 2, 1), table);
     let grown = grow(grow(ungrown(opening.book), table, 1), table, 0);
     grown.book
@@ -117,8 +115,7 @@ fn before_last(table: Table) -> Book {
 
 // The book before the last call: the net costs, those of a place past the last, and the quote; each crane, a number above them, and that
 // number to a place past the last. Then with other entries past its counts.
-pub(crate) fn last() {
-    let table = tables::three(10, 20, 15);
+pub(crate) fn last(table: &[u32]) {
     let book = before_last(table);
     line::begin(29);
     net_costs(book, table, 1);
@@ -150,8 +147,7 @@ fn metres(book: Book) {
 }
 
 // After the last call: the metres by the quoted crane, and by crane 0. Then the sum of the served day.
-pub(crate) fn driven() {
-    let table = tables::three(10, 20, 15);
+pub(crate) fn driven(table: &[u32]) {
     let book = before_last(table);
     let quoted = grow(ungrown(book), table, 1);
     let other = Dispatch::commit(book, 3, table, 1, 0);

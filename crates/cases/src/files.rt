@@ -1,8 +1,10 @@
-// Day files: every refusal of a file with its record, the order of the tests, and files that are read and written back. Prints three numbers
-// of each file: the number that reading gives, the record's index, and whether the day that was read is written back byte for byte, 1 or 0.
+// Day files: every refusal of a file with its record, the order of the tests, and files that are read and written back. Prints four numbers
+// of each file: the number that reading gives, the record's index, whether the day that was read is written back byte for byte, 1 or 0, and the
+// sum of all 2,016 entries of its table. That is the sum of the legs where a table is 0 past them, and 0 for a refused file.
 use crate::line;
 use base::Verdict;
 use dayfile::Day;
+use road::Road;
 
 // Records: the kind, the first place, the second place and the metres, to the base of sixteen. No record.
 const NONE: u64 = 0;
@@ -80,11 +82,14 @@ const SHORT: usize = 48;
 // One record more than the longest file has.
 const LONG: usize = Day::FILE_LENGTH + Day::RECORD_LENGTH;
 
-// Whether a file that is read is written back byte for byte.
-fn comes_back(bytes: &[u8], day: Day) -> bool {
+// Whether a file that is read is written back byte for byte, by its day and the legs of its table.
+fn comes_back(bytes: &[u8], day: Day, table: &[u32]) -> bool {
     let mut buffer = [7; Day::FILE_LENGTH];
-    let table = Day::read_table(bytes);
-    let written = day.write(table, &mut buffer);
+    let legs = Road::legs(day.places);
+    if table.len() < legs {
+        return false;
+    }
+    let written = day.write(&table[0..legs], &mut buffer);
     let verdict = written.verdict;
     let Verdict::Accepted = verdict else {
         return false;
@@ -93,7 +98,18 @@ fn comes_back(bytes: &[u8], day: Day) -> bool {
     if Day::FILE_LENGTH < length {
         return false;
     }
-    check::same(bytes, &buffer[..length])
+    check::same(bytes, &buffer[0..length])
+}
+
+// The sum of all entries of a table.
+fn sum(table: &[u32]) -> u64 {
+    let mut sum = 0;
+    let mut i = 0;
+    while i < table.len() {
+        sum = std::num::wrapping_add_u64(sum, table[i] as u64);
+        i += 1;
+    }
+    sum
 }
 
 // Reads a file.
@@ -102,9 +118,18 @@ fn read(bytes: &[u8]) {
     let verdict = reading.verdict;
     line::verdict(verdict);
     line::number(reading.index as u64);
-    let day = reading.day;
-    line::number(comes_back(bytes, day) as u64);
+    let table = reading.table;
+    let entries = &table[..];
+    line::number(comes_back(bytes, reading.day, entries) as u64);
+    line::number(sum(entries));
     line::comma();
+}
+
+// Reads so many bytes of a file, where it has them.
+fn read_part(file: &[u8], length: usize) {
+    if length <= file.len() {
+        read(&file[0..length]);
+    }
 }
 
 // One byte of a file, where it has that byte.
@@ -162,9 +187,7 @@ fn short(first: u64, second: u64, third: u64, last: u64, length: usize, at: usiz
     put(&mut file[..], 24, third);
     put(&mut file[..], 36, last);
     set(&mut file[..], at, byte);
-    if length <= SHORT {
-        read(&file[..length]);
-    }
+    read_part(&file, length);
 }
 
 // Reads a file of so many legs, the last of so many metres, cranes, calls and one record more: so many of their bytes.
@@ -179,14 +202,13 @@ fn long(legs: usize, metres: u8, cranes: usize, calls: usize, last: u64, length:
     let from = put_many(&mut file[..], behind, K0, cranes);
     let end = put_many(&mut file[..], from, R0, calls);
     put(&mut file[..], end, last);
-    if length <= LONG {
-        read(&file[..length]);
-    }
+    read_part(&file, length);
 }
 
-// Legs 10, 25, 15 and a crane; the triangle rule; a crane alone. Then the metres of a leg, and the triangle rule over a leg of 0.
-pub(crate) fn metres() {
+// Case A, given as its file. Legs 10, 25, 15 and a crane; the triangle rule; a crane alone. Then the metres of a leg, and the triangle rule over a leg of 0.
+pub(crate) fn metres(file: &[u8]) {
     line::begin(5);
+    read(file);
     short(A, B25, C, K0, 48, 0, 1);
     short(A, B26, C, K0, 48, 0, 1);
     short(K0, NONE, NONE, NONE, 12, 0, 2);

@@ -11,11 +11,15 @@ mod prints;
 mod sheets;
 mod tables;
 
-// Road tables and day files.
-fn read() {
+// The file of case A.
+const FILE_A: [u8; 96] =
+    *b"\x01\0\0\0\x01\0\0\0\x0a\0\0\0\x01\0\0\0\x02\0\0\0\x14\0\0\0\x01\0\x01\0\x02\0\0\0\x0f\0\0\0\x02\0\0\0\0\0\0\0\0\0\0\0\x02\0\x02\0\0\0\0\0\0\0\0\0\x03\0\x01\0\0\0\0\0\0\0\0\0\x03\0\0\0\0\0\0\0\0\0\0\0\x03\0\x01\0\0\0\0\0\0\0\0\0";
+
+// Road tables and day files; `file` is that of case A.
+fn read(file: &[u8]) {
     tables::rules();
     tables::order();
-    files::metres();
+    files::metres(file);
     files::kinds();
     files::order();
     files::stops();
@@ -23,23 +27,24 @@ fn read() {
     files::calls();
 }
 
-// Days, books and calls in memory, prints and sheets.
-fn memory() {
+// Days, books and calls in memory, prints and sheets; `file` and `legs` are those of case A, `broken` are three legs that break the triangle rule,
+// and `short` are two of three.
+fn memory(file: &[u8], legs: &[u32], broken: &[u32], short: &[u32]) {
     days::each();
-    days::order();
+    days::order(legs, broken);
     books::counts();
     books::plans();
     books::weights();
     books::metres();
     books::order();
     books::cranes();
-    books::fresh();
-    calls::last();
-    calls::driven();
-    prints::days();
+    books::fresh(legs, broken, short);
+    calls::last(legs);
+    calls::driven(legs);
+    prints::days(file);
     prints::refusals();
-    sheets::buffers();
-    sheets::past();
+    sheets::buffers(legs, broken, short);
+    sheets::past(legs);
     sheets::widths();
 }
 
@@ -48,11 +53,11 @@ fn legend() {
     line::text(
         b"Tables: the number of the test.
 1 the triangle rule kept and broken, the last two over a leg of 0
-2 1000000, 1000001 and 0 metres; one place; 26 metres past two places
-3 65 and 0 places; 3 before 4; 4 before 8
-4 a self-leg and two directions before 8, and past two places
-Files: the number, the record, and whether the day that was read is written back the same.
-5 triangles and metres, the last two over a leg of 0
+2 1000000, 1000001 and 0 metres; one place
+3 65 places by no number and by 2080, 0 by none; 3 before 4, of the places and of the length; 4 before 8
+4 three places by 2 numbers and by 4, two by 3, one by 1; 64 by 2016, 2015 and 2017; 63 by 2016
+Files: the number, the record, whether the day that was read is written back the same, and the sum of all entries of its table.
+5 case A; triangles and metres, the last two over a leg of 0
 6 lengths
 7 other kinds and bytes that are not 0
 8 records out of order
@@ -64,19 +69,19 @@ Files: the number, the record, and whether the day that was read is written back
 14 256 calls and 257
 15 the longest and longer
 Days in memory: the numbers of the test, of a fresh book, of the served day and of a sheet into no room; of a write the number, the length and whether the rest is as before.
-16 accepted, and by each number; legs 10, 0, 15
-17 3 before 6 before 7 before 4 before 5 before 8
+16 accepted, and by each number; legs 10, 0, 15; one place by no number and by 1; three by 2 and 4; 64 by 2016 and 2015
+17 3 before 6, of the places, of 2 numbers for three and of 4; 6 before 7 before 4 before 5 before 8
 18 into 95 bytes, the same by 8, into 96 and 97
 Books: the number of the test; the number of the costs, least and floor; the number of the net costs, and whether all are 0; the number of the quote, and whether the rest of it is 0; the number of the commit, and whether its least is 0 and its book the same.
-19 one crane and no call; sixteen and 256
-20 counts, places and tables
+19 one crane and no call; sixteen and 256; one crane over one place, and over 64
+20 65 places; three by 2 numbers and by 4, one by 1, 64 by 2015; other counts, places past the last, and legs
 21 a stand named twice, a follower out of range, back to an earlier call
 22 a crane driven away, and its weight raised
 23 weights
 24 sixteen cranes and 256 calls: 256000000 metres, and one more; one crane and no call: 1 metre, and 4294967295 past the crane
-25 3 before 6 before 7 before 4 before 5 before 8 before 9 before 10 before 13, then 5 before 12 before 7
+25 3 before 6, of the places, of 2 numbers for three and of 4; 6 before 7 before 4 before 5 before 8 before 9 before 10 before 13, then 5 before 12 before 7
 26 one crane: crane 0, crane 1 and the highest number; sixteen: crane 15 and crane 16
-27 a fresh one, and that of a refused day
+27 a fresh one, that of a day refused by 8, and by 3
 28 a book filled, quotes and commits accepted, and one more
 Case A before its last call: the number of the net costs, those of cranes 0 and 1, and whether the rest are 0; the number of the quote, crane, metres and least; the number of a commit, its least, and the least of its book.
 29 the net costs, and those of place 3; the quote; cranes 0, 1 and 2; crane 2 to place 3
@@ -87,7 +92,7 @@ Prints: the text of the print, then of the sheet, and whether all bytes past eac
 32 case A; one place and one crane; the same and a call
 33 an empty file; 13 bytes; legs missing; legs 10, 26, 15
 Sheets: the rows, the number, the length and whether the rest is as before.
-34 case A into 83, 84 and 85 bytes; legs 10, 26, 15 into 83 and 84
+34 case A into 83, 84 and 85 bytes; legs 10, 26, 15 into 83 and 84; 2 numbers into 84
 35 no calls into no bytes and into 85
 36 case A, with numbers past the counts that break every rule
 37 the last row of 256 calls; place 63 and crane 15",
@@ -95,8 +100,9 @@ Sheets: the rows, the number, the length and whether the rest is as before.
 }
 
 fn main() {
+    let file = FILE_A;
     legend();
-    read();
-    memory();
+    read(&file);
+    memory(&file, &[10, 20, 15], &[10, 26, 15], &[10, 20]);
     line::text(b"\n");
 }

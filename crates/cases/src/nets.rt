@@ -3,7 +3,6 @@ use crate::line;
 use book::Book;
 use dispatch::Dispatch;
 use dispatch::NetCosts;
-use road::Table;
 
 // The net cost of a crane.
 pub(crate) fn at(told: NetCosts, crane: usize) -> i64 {
@@ -20,7 +19,7 @@ pub(crate) fn zeros_from(told: NetCosts, from: usize) -> bool {
 }
 
 // Prints of a book and a call the number of the net costs, and whether all entries are 0, 1 or 0.
-pub(crate) fn ask(book: Book, places: usize, table: Table, place: u16) {
+pub(crate) fn ask(book: Book, places: usize, table: &[u32], place: u16) {
     let told = Dispatch::net_costs(book, places, table, place);
     let verdict = told.verdict;
     line::verdict(verdict);

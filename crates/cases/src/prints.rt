@@ -23,12 +23,10 @@ fn print(file: &[u8]) {
     show(&rows[..length], none);
 }
 
-// Case A. Then one place and one crane: no calls, and one call.
-pub(crate) fn days() {
+// Case A, given as its file. Then one place and one crane: no calls, and one call.
+pub(crate) fn days(file: &[u8]) {
     line::begin(32);
-    print(
-        b"\x01\0\0\0\x01\0\0\0\x0a\0\0\0\x01\0\0\0\x02\0\0\0\x14\0\0\0\x01\0\x01\0\x02\0\0\0\x0f\0\0\0\x02\0\0\0\0\0\0\0\0\0\0\0\x02\0\x02\0\0\0\0\0\0\0\0\0\x03\0\x01\0\0\0\0\0\0\0\0\0\x03\0\0\0\0\0\0\0\0\0\0\0\x03\0\x01\0\0\0\0\0\0\0\0\0",
-    );
+    print(file);
     print(b"\x02\0\0\0\0\0\0\0\0\0\0\0");
     print(b"\x02\0\0\0\0\0\0\0\0\0\0\0\x03\0\0\0\0\0\0\0\0\0\0\0");
 }

@@ -1,16 +1,16 @@
 -- Document 01's cases marked P and those of the papers, as one table: what is given, and what is said of it.
 use Prim.Native.Nat.{ℕ, _-_}
 use mathlib.Core.Bool.{Bool, true, false, _&&_}
-use mathlib.Core.List.{List, [], _∷_, _++_, map, flatMap}
+use mathlib.Core.List.{List, [], _∷_, _++_, flatMap}
 use lib.Dec.{eqb}
 use lib.IntN.{ℤ, pos, negℤ}
 use lib.ListN.{length, replicate}
 use lib.Signed.{leZ}
 use Rattle.base.specs.Lists.{upTo}
-use Rattle.road.specs.Table.{Table, mostPlaces, metresOf, tableRefusal}
-use Rattle.dayfile.specs.Day.{mostCranes, mostCalls}
+use Rattle.road.specs.Table.{Table, mostLegs, metresOf, tableRefusal}
+use Rattle.dayfile.specs.Day.{mostCranes, mostCalls, dayRefusal}
 use Rattle.dayfile.specs.declared.Day.{Day}
-use Rattle.dayfile.specs.File.{readFile, Output}
+use Rattle.dayfile.specs.File.{readFile, readTable, Output}
 use Rattle.workfunction.specs.Choice.{moveSum}
 use Rattle.book.specs.Book.{mostStops, startsOf, standsOf, requestsOf, freshOf}
 use Rattle.book.specs.declared.Book.{Book}
@@ -23,44 +23,64 @@ use Rattle.sheet.specs.Row.{rowBytes}
 use Rattle.sheet.specs.Sheet.{sheetOf, readSheet}
 use Rattle.report.specs.Report.{printOf, sheetPrintOf}
 
+-- a road table: its run, and the number of places stated for it
+pub record Roads : Type 0 where
+  pub places : ℕ
+  pub run : Table
+
 pub data Case : Type 0 where
-  -- a road table of so many places: its refusal, 0 where it is accepted
-  table : ℕ → List (List ℕ) → ℕ → Case
+  -- a road table: its refusal, 0 where it is accepted
+  table : Roads → ℕ → Case
+  -- a road table, starts and calls: the refusal of their day, 0 where it is accepted
+  day : Roads → List ℕ → List ℕ → ℕ → Case
   -- the bytes of a day file: its refusal, 0 where it is accepted, and the index that goes with it
   file : List ℕ → ℕ → ℕ → Case
+  -- the bytes of a day file: the run that is read, and 0 past it
+  legs : List ℕ → List ℕ → Case
   -- the fresh book of a road table and of starts: its least and its floor; its metres are 0
-  fresh : List (List ℕ) → List ℕ → ℕ → ℕ → Case
+  fresh : Roads → List ℕ → ℕ → ℕ → Case
   -- a road table, a book and the place of a call: the sum of each crane's move
-  sums : List (List ℕ) → Book → ℕ → List ℕ → Case
+  sums : Roads → Book → ℕ → List ℕ → Case
   -- the number of its net costs, and all of their entries
-  netted : List (List ℕ) → Book → ℕ → ℕ → List ℤ → Case
+  netted : Roads → Book → ℕ → ℕ → List ℤ → Case
   -- the number, the crane, the metres and the least that are quoted
-  quoted : List (List ℕ) → Book → ℕ → ℕ → ℕ → ℕ → ℕ → Case
+  quoted : Roads → Book → ℕ → ℕ → ℕ → ℕ → ℕ → Case
   -- a crane beside them: the number and the least of its commit, and of the book handed back the stands, the calls, and the metres, 0 past
   -- those listed
-  committed : List (List ℕ) → Book → ℕ → ℕ → ℕ → ℕ → List ℕ → List ℕ → List ℕ → Case
+  committed : Roads → Book → ℕ → ℕ → ℕ → ℕ → List ℕ → List ℕ → List ℕ → Case
   -- the bytes of a day file: all bytes of the print
   print : List ℕ → List ℕ → Case
   -- the bytes of a day file: all bytes of its sheet
   posted : List ℕ → List ℕ → Case
   -- a road table, starts and calls, and a buffer: the number, the length, and the whole buffer after the sheet is written
-  sheet : List (List ℕ) → List ℕ → List ℕ → List ℕ → ℕ → ℕ → List ℕ → Case
+  sheet : Roads → List ℕ → List ℕ → List ℕ → ℕ → ℕ → List ℕ → Case
   -- call, place, crane, metres and least: all bytes of the row
   row : ℕ → ℕ → ℕ → ℕ → ℕ → List ℕ → Case
   -- all bytes of a sheet: the five values of each row
   values : List ℕ → List ℕ → Case
 
--- one place
-abbrev one : List (List ℕ)
-one = (0 ∷ []) ∷ []
+-- so many places and these numbers
+abbrev roads : ℕ → List ℕ → Roads
+roads n l = record { places = n; run = l }
+
+-- one place, which has no legs
+abbrev one : Roads
+one = roads 1 []
 
 -- two places, by the leg (0,1)
-abbrev pair : ℕ → List (List ℕ)
-pair a = (0 ∷ a ∷ []) ∷ (a ∷ 0 ∷ []) ∷ []
+abbrev pair : ℕ → Roads
+pair a = roads 2 (a ∷ [])
 
 -- three places, by the legs (0,1), (0,2), (1,2)
-abbrev three : ℕ → ℕ → ℕ → List (List ℕ)
-three a b c = (0 ∷ a ∷ b ∷ []) ∷ (a ∷ 0 ∷ c ∷ []) ∷ (b ∷ c ∷ 0 ∷ []) ∷ []
+abbrev three : ℕ → ℕ → ℕ → Roads
+three a b c = roads 3 (a ∷ b ∷ c ∷ [])
+
+-- three places by two numbers, and by four
+abbrev short : Roads
+short = roads 3 (10 ∷ 20 ∷ [])
+
+abbrev long : Roads
+long = roads 3 (10 ∷ 20 ∷ 15 ∷ 7 ∷ [])
 
 -- the record of a leg, its metres given by their four bytes; of a crane; and of a call
 abbrev leg : ℕ → ℕ → ℕ → ℕ → ℕ → ℕ → List ℕ
@@ -105,18 +125,14 @@ sheetA =
 abbrev array : {A : Type 0} → ℕ → A → List A → List A
 array n z l = l ++ replicate (n - length l) z
 
--- the road table, by the rows of its places
-abbrev roads : List (List ℕ) → Table
-roads rows = array mostPlaces (replicate mostPlaces 0) (map (array mostPlaces 0) rows)
-
--- the day of such a table, starts and calls
-abbrev dayOf : List (List ℕ) → List ℕ → List ℕ → Day
-dayOf rows starts calls =
-    record { places = length rows; cranes = length starts; calls = length calls; starts = array mostCranes 0 starts; requests = array mostCalls 0 calls }
+-- the day of a road table, starts and calls
+abbrev dayOf : Roads → List ℕ → List ℕ → Day
+dayOf t starts calls =
+    record { places = t .places; cranes = length starts; calls = length calls; starts = array mostCranes 0 starts; requests = array mostCalls 0 calls }
 
 -- the book that is opened for a day without calls
-abbrev opened : List (List ℕ) → List ℕ → Book
-opened rows starts = freshOf (dayOf rows starts []) (roads rows) .book
+abbrev opened : Roads → List ℕ → Book
+opened t starts = freshOf (dayOf t starts []) (t .run) .book
 
 -- case A's book before its call 2: crane 0 went to the calls 1 and 0, and stands at its start again
 abbrev bookA : Book
@@ -209,17 +225,37 @@ cases =
     fresh (three 0 5 5) (2 ∷ 1 ∷ []) 0 0 ∷
     fresh (three 10 20 15) (0 ∷ 2 ∷ []) 0 0 ∷
     -- "legs 10, 25, 15 accepted. P: 10, 26, 15 give 8." The rule holds over a leg of 0 too (paper 1).
-    table 3 (three 10 25 15) 0 ∷
-    table 3 (three 10 26 15) 8 ∷
-    table 3 (three 0 5 5) 0 ∷
-    table 3 (three 0 5 6) 8 ∷
+    table (three 10 25 15) 0 ∷
+    table (three 10 26 15) 8 ∷
+    table (three 0 5 5) 0 ∷
+    table (three 0 5 6) 8 ∷
     -- "metres 1,000,000 accepted. P: 1,000,001 give 4." Paper 1: "The edge case with 0 metres is now accepted."
-    table 2 (pair 1000000) 0 ∷
-    table 2 (pair 1000001) 4 ∷
-    table 2 (pair 0) 0 ∷
-    -- "in memory also a self-leg not 0 or two directions unequal", beside a leg of 0
-    table 2 ((0 ∷ 0 ∷ []) ∷ (0 ∷ 1 ∷ []) ∷ []) 4 ∷
-    table 2 ((0 ∷ 0 ∷ []) ∷ (1 ∷ 0 ∷ []) ∷ []) 4 ∷
+    table (pair 1000000) 0 ∷
+    table (pair 1000001) 4 ∷
+    table (pair 0) 0 ∷
+    -- paper 6: "one run of numbers, the legs in the day file's order, without the self-legs"; of case A's file it is the three legs, and
+    -- "0 past its legs"; of a refused file there is none
+    table one 0 ∷
+    legs fileA (10 ∷ 20 ∷ 15 ∷ []) ∷
+    legs (crane 0) [] ∷
+    legs (leg 0 1 10 0 0 0) [] ∷
+    -- paper 6: "A run longer or shorter than the legs of its stated number of places gives 3", before 6, 4 and 8, and so do "places not 1 to 64"
+    -- with a run as long as their legs; of a day, a sheet, a quote and a commit too, and then the book is handed back as it was
+    table short 3 ∷
+    table long 3 ∷
+    table (roads 1 (0 ∷ [])) 3 ∷
+    table (roads 0 []) 3 ∷
+    table (roads 65 (replicate 2080 0)) 3 ∷
+    table (roads 3 (10 ∷ 1000001 ∷ [])) 3 ∷
+    table (roads 3 (10 ∷ 26 ∷ 15 ∷ 7 ∷ [])) 3 ∷
+    day (three 10 20 15) (0 ∷ 2 ∷ []) (1 ∷ 0 ∷ 1 ∷ []) 0 ∷
+    day (three 10 20 15) [] [] 6 ∷
+    day short [] [] 3 ∷
+    day long (replicate 17 0) [] 3 ∷
+    sheet short (0 ∷ 2 ∷ []) (1 ∷ 0 ∷ 1 ∷ []) (replicate 84 7) 3 0 (replicate 84 7) ∷
+    quoted short bookA 1 3 0 0 0 ∷
+    quoted long bookA 1 3 0 0 0 ∷
+    committed short bookA 1 1 3 0 (0 ∷ 2 ∷ []) (1 ∷ 0 ∷ []) (20 ∷ 0 ∷ []) ∷
     -- legs and triangles as files: 1,000,000 is 64 + 66 · 256 + 15 · 65,536
     file (leg 0 1 10 0 0 0 ++ leg 0 2 25 0 0 0 ++ leg 1 2 15 0 0 0 ++ crane 0) 0 0 ∷
     file (leg 0 1 10 0 0 0 ++ leg 0 2 26 0 0 0 ++ leg 1 2 15 0 0 0 ++ crane 0) 8 0 ∷
@@ -233,9 +269,8 @@ cases =
     []
 
 -- w(C(s)) + d(s,r) of each crane s
-abbrev moveSums : List (List ℕ) → Book → ℕ → List ℕ
-moveSums rows book r =
-    upTo (book .cranes) (moveSum (metresOf (roads rows)) (length rows) (startsOf book) (requestsOf book) (standsOf book) r)
+abbrev moveSums : Roads → Book → ℕ → List ℕ
+moveSums t book r = upTo (book .cranes) (moveSum (metresOf (t .run)) (t .places) (startsOf book) (requestsOf book) (standsOf book) r)
 
 -- two lists have the same entries, by a test of two
 unfoldable pub sameBy : {A : Type 0} → (A → A → Bool) → List A → List A → Bool
@@ -278,18 +313,20 @@ five r = r .call ∷ r .place ∷ r .crane ∷ r .metres ∷ r .least ∷ []
 
 -- What is told of a commit does not depend on the plan and the weights of the book after it, which are left out.
 unfoldable pub agrees : Case → Bool
-agrees (table n rows r) = eqb (tableRefusal n (roads rows)) r
+agrees (table t n) = eqb (tableRefusal (t .places) (t .run)) n
+agrees (day t starts calls n) = eqb (dayRefusal (dayOf t starts calls) (t .run)) n
 agrees (file bs n i) = eqb (readFile bs .number) n && eqb (readFile bs .index) i
-agrees (fresh rows starts w f) =
-    costs w f (costsOf (opened rows starts) (length rows) (roads rows)) && same (opened rows starts .driven) (array mostCranes 0 [])
-agrees (sums rows book r l) = same (moveSums rows book r) l
-agrees (netted rows book r n l) = nets n l (netsOf book (length rows) (roads rows) r)
-agrees (quoted rows book r n s m w) = figures n s m w (quoteOf book (length rows) (roads rows) r)
-agrees (committed rows book r c n w stands calls driven) =
-    handed n w stands calls driven (commitOf book (length rows) (roads rows) r c [] [])
+agrees (legs bs l) = same (readTable bs) l && same (readFile bs .table) (array mostLegs 0 l)
+agrees (fresh t starts w f) =
+    costs w f (costsOf (opened t starts) (t .places) (t .run)) && same (opened t starts .driven) (array mostCranes 0 [])
+agrees (sums t book r l) = same (moveSums t book r) l
+agrees (netted t book r n l) = nets n l (netsOf book (t .places) (t .run) r)
+agrees (quoted t book r n s m w) = figures n s m w (quoteOf book (t .places) (t .run) r)
+agrees (committed t book r c n w stands calls driven) =
+    handed n w stands calls driven (commitOf book (t .places) (t .run) r c [] [])
 agrees (print bs out) = same (printOf bs) out
 agrees (posted bs out) = same (sheetPrintOf bs) out
-agrees (sheet rows starts calls before n k out) = output n k out (sheetOf (dayOf rows starts calls) (roads rows) before)
+agrees (sheet t starts calls before n k out) = output n k out (sheetOf (dayOf t starts calls) (t .run) before)
 agrees (row i r s m w bs) = same (rowBytes (record { call = i; place = r; crane = s; metres = m; least = w })) bs
 agrees (values bs l) = same (flatMap five (readSheet bs)) l
 

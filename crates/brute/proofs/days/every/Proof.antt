@@ -6,10 +6,10 @@ use Rattle.brute.proofs.days.every.Statement.{statement}
 use Rattle.brute.proofs.days.every.Tie as tie
 
 abbrev Inv-loop : tie.InvT-loop
-Inv-loop places cranes calls bound tables starts days group₀ i₀ group i = i ≤ days
+Inv-loop places cranes calls bound squares starts days group₀ i₀ group i = i ≤ days
 
 abbrev μ-loop : tie.MeasureT-loop
-μ-loop places cranes calls bound tables starts days group₀ i₀ group i = days - i
+μ-loop places cranes calls bound squares starts days group₀ i₀ group i = days - i
 
 loop-holds : tie.Need-loop-holds Inv-loop μ-loop
 loop-holds c = search needs

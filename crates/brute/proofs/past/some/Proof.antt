@@ -6,28 +6,16 @@ use Rattle.brute.proofs.past.some.Statement.{statement}
 use Rattle.brute.proofs.past.some.Tie as tie
 
 abbrev Inv-loop : tie.InvT-loop
-Inv-loop places cranes calls size tally₀ i₀ tally i = i ≤ 40
+Inv-loop places cranes calls tally₀ i₀ tally i = i ≤ 40
 
 abbrev μ-loop : tie.MeasureT-loop
-μ-loop places cranes calls size tally₀ i₀ tally i = 40 - i
-
-size-of-requires : tie.Need-size-of-requires Inv-loop μ-loop
-size-of-requires c κs = search needs
+μ-loop places cranes calls tally₀ i₀ tally i = 40 - i
 
 loop-holds : tie.Need-loop-holds Inv-loop μ-loop
 loop-holds c = search needs
 
-drawn-table-requires : tie.Need-drawn-table-requires Inv-loop μ-loop
-drawn-table-requires c κs = search needs
-
-drawn-day-requires : tie.Need-drawn-day-requires Inv-loop μ-loop
-drawn-day-requires c κs = search needs
-
-drawn-place-requires : tie.Need-drawn-place-requires Inv-loop μ-loop
-drawn-place-requires c κs = search needs
-
-agrees-requires : tie.Need-agrees-requires Inv-loop μ-loop
-agrees-requires c κs = search needs
+drawn-agrees-requires : tie.Need-drawn-agrees-requires Inv-loop μ-loop
+drawn-agrees-requires c κs = search needs
 
 add-requires : tie.Need-add-requires Inv-loop μ-loop
 add-requires c κs = search needs
@@ -50,12 +38,8 @@ some-spec =
     (tie.spec
     Inv-loop
     μ-loop
-    size-of-requires
     loop-holds
-    drawn-table-requires
-    drawn-day-requires
-    drawn-place-requires
-    agrees-requires
+    drawn-agrees-requires
     add-requires
     add-i
     loop-less

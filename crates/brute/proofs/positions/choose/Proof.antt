@@ -6,10 +6,10 @@ use Rattle.brute.proofs.positions.choose.Statement.{statement}
 use Rattle.brute.proofs.positions.choose.Tie as tie
 
 abbrev Inv-loop : tie.InvT-loop
-Inv-loop table cranes leasts stands place best₀ crane₀ best crane = crane ≤ crane
+Inv-loop square cranes leasts stands place best₀ crane₀ best crane = crane ≤ crane
 
 abbrev μ-loop : tie.MeasureT-loop
-μ-loop table cranes leasts stands place best₀ crane₀ best crane = cranes - crane
+μ-loop square cranes leasts stands place best₀ crane₀ best crane = cranes - crane
 
 sending-requires : tie.Need-sending-requires Inv-loop μ-loop
 sending-requires c κs = search needs

@@ -6,10 +6,10 @@ use Rattle.brute.proofs.positions.distance.Statement.{statement}
 use Rattle.brute.proofs.positions.distance.Tie as tie
 
 abbrev Inv-loop : tie.InvT-loop
-Inv-loop table size a b least₀ i₀ i-end least i = i ≤ size .pairings
+Inv-loop square size a b least₀ i₀ i-end least i = i ≤ size .pairings
 
 abbrev μ-loop : tie.MeasureT-loop
-μ-loop table size a b least₀ i₀ i-end least i = size .pairings - i
+μ-loop square size a b least₀ i₀ i-end least i = size .pairings - i
 
 loop-holds : tie.Need-loop-holds Inv-loop μ-loop
 loop-holds c = search needs

@@ -6,10 +6,10 @@ use Rattle.brute.proofs.positions.leasts.Statement.{statement}
 use Rattle.brute.proofs.positions.leasts.Tie as tie
 
 abbrev Inv-loop : tie.InvT-loop
-Inv-loop table size reached stands place leasts₀ crane₀ crane-end leasts crane = crane ≤ size .cranes
+Inv-loop square size reached stands place leasts₀ crane₀ crane-end leasts crane = crane ≤ size .cranes
 
 abbrev μ-loop : tie.MeasureT-loop
-μ-loop table size reached stands place leasts₀ crane₀ crane-end leasts crane = size .cranes - crane
+μ-loop square size reached stands place leasts₀ crane₀ crane-end leasts crane = size .cranes - crane
 
 loop-holds : tie.Need-loop-holds Inv-loop μ-loop
 loop-holds c = search needs

@@ -6,10 +6,10 @@ use Rattle.brute.proofs.positions.paired.Statement.{statement}
 use Rattle.brute.proofs.positions.paired.Tie as tie
 
 abbrev Inv-loop : tie.InvT-loop
-Inv-loop table cranes a b pairing sum₀ slots₀ slot₀ sum slots slot = slot ≤ cranes
+Inv-loop square cranes a b pairing sum₀ slots₀ slot₀ sum slots slot = slot ≤ cranes
 
 abbrev μ-loop : tie.MeasureT-loop
-μ-loop table cranes a b pairing sum₀ slots₀ slot₀ sum slots slot = cranes - slot
+μ-loop square cranes a b pairing sum₀ slots₀ slot₀ sum slots slot = cranes - slot
 
 loop-holds : tie.Need-loop-holds Inv-loop μ-loop
 loop-holds c = search needs

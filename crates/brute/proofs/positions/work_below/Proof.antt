@@ -6,10 +6,10 @@ use Rattle.brute.proofs.positions.work_below.Statement.{statement}
 use Rattle.brute.proofs.positions.work_below.Tie as tie
 
 abbrev Inv-loop : tie.InvT-loop
-Inv-loop table size reached end most least₀ code₀ code-end least code = code ≤ size .codes
+Inv-loop square size reached end most least₀ code₀ code-end least code = code ≤ size .codes
 
 abbrev μ-loop : tie.MeasureT-loop
-μ-loop table size reached end most least₀ code₀ code-end least code = size .codes - code
+μ-loop square size reached end most least₀ code₀ code-end least code = size .codes - code
 
 loop-holds : tie.Need-loop-holds Inv-loop μ-loop
 loop-holds c = search needs

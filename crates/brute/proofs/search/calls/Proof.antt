@@ -6,10 +6,10 @@ use Rattle.brute.proofs.search.calls.Statement.{statement}
 use Rattle.brute.proofs.search.calls.Tie as tie
 
 abbrev Inv-loop : tie.InvT-loop
-Inv-loop day table size requests sides₀ from₀ sents₀ i₀ sides from sents i = i ≤ 6
+Inv-loop day square run size requests sides₀ from₀ sents₀ i₀ sides from sents i = i ≤ 6
 
 abbrev μ-loop : tie.MeasureT-loop
-μ-loop day table size requests sides₀ from₀ sents₀ i₀ sides from sents i = 6 - i
+μ-loop day square run size requests sides₀ from₀ sents₀ i₀ sides from sents i = 6 - i
 
 loop-holds : tie.Need-loop-holds Inv-loop μ-loop
 loop-holds c = search needs
