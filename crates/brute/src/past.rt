@@ -1,5 +1,5 @@
 // Entries past the counts: random days, and the books that grow from them, with numbers there that break every rule, in every array;
-// beside the brute search, and beside the same day without them. A run with a number past its legs, or one fewer, is refused.
+// beside the brute search, and beside the same day without them.
 use crate::positions;
 use crate::positions::Size;
 use crate::roads;
@@ -9,7 +9,6 @@ use crate::small;
 use crate::tally::Tally;
 use book::Book;
 use dayfile::Day;
-use dispatch::Dispatch;
 ghost use Prim.Native.Nat.{_+_, _<_};
 ghost use Rattle.dayfile.specs.Day.{mostCranes, mostCalls};
 ghost use Rattle.book.specs.Book.{mostStops};
@@ -159,29 +158,11 @@ fn written_alike(a: Day, b: Day, run: &[u32]) -> bool {
     (told.length == again.length) & check::same(&one, &other)
 }
 
-// Whether whatever is asked of a book over a run is refused by 3.
-fn refused(book: Book, places: usize, run: &[u32], place: u16) -> bool {
-    let costs = Dispatch::costs(book, places, run).verdict;
-    let nets = Dispatch::net_costs(book, places, run, place).verdict;
-    let quote = Dispatch::quote(book, places, run, place).verdict;
-    let commit = Dispatch::commit(book, places, run, place, 0).verdict;
-    (base::number(costs) == 3)
-        & (base::number(nets) == 3)
-        & (base::number(quote) == 3)
-        & (base::number(commit) == 3)
-}
-
-// The same over a run of one number more than so many, and of one fewer.
-fn lengths_refused(book: Book, places: usize, legs: &[u32], count: usize, place: u16) -> bool {
-    let more = roads::front(legs, std::num::wrapping_add_usize(count, 1));
-    let fewer = roads::front(legs, std::num::wrapping_sub_usize(count, 1));
-    refused(book, places, more, place) & refused(book, places, fewer, place)
-}
-
 // A day of so many calls and one more: every figure and the sheet are the search's, the last call is served from a book with such
-// entries, and the book after it and the file are those of the day without them; over a run of another length nothing is answered.
-fn agrees(size: Size, day: Day, square: &Square, legs: &[u32], place: u16) -> bool {
-    let run = roads::run(legs, size.places);
+// entries, and the book after it and the file are those of the day without them.
+fn agrees(size: Size, day: Day, square: &Square, place: u16) -> bool {
+    let legs = roads::legs(square);
+    let run = roads::run(&legs, size.places);
     let plain = search::call(square, run, size, search::day(day, square), place, 0);
     let mut sides = search::day(spoiled_day(day), square);
     sides.book = spoiled_book(sides.book);
@@ -191,7 +172,6 @@ fn agrees(size: Size, day: Day, square: &Square, legs: &[u32], place: u16) -> bo
         & last.agree
         & same(plain.book, last.book)
         & written_alike(day, spoiled_day(day), run)
-        & lengths_refused(sides.book, size.places, legs, run.len(), place)
 }
 
 // The same of the random day of a number.
@@ -200,15 +180,8 @@ fn drawn_agrees(number: usize, places: usize, cranes: usize, calls: usize) -> bo
 {
     let day = small::drawn_day(number, places, cranes, calls);
     let square = small::drawn_square(number, places, 1_000, false);
-    let legs = roads::legs(&square);
     let size = positions::size_of(places, cranes);
-    agrees(
-        size,
-        day,
-        &square,
-        &legs,
-        small::drawn_place(number, places),
-    )
+    agrees(size, day, &square, small::drawn_place(number, places))
 }
 
 // Forty days of a size too.

@@ -13,8 +13,8 @@ const COUNTS: [usize; 6] = [0, 0, 1, 3, 6, 10];
 // For each place and each other the metres between them, and 0 from a place to itself.
 pub type Square = [[u32; PLACES]; PLACES];
 
-// The legs of a square, and a number more.
-pub type Legs = [u32; LEGS + 1];
+// The legs of a square.
+pub type Legs = [u32; LEGS];
 
 // A leg: its first place and its second, which is above the first.
 pub struct Leg {
@@ -50,7 +50,7 @@ pub(crate) fn metres(square: &Square, from: usize, to: usize) -> u32 {
 
 // All legs of a square, leg by leg.
 pub(crate) fn legs(square: &Square) -> Legs {
-    let mut legs = [0; LEGS + 1];
+    let mut legs = [0; LEGS];
     let mut leg = FIRST;
     for i in 0..LEGS {
         legs[i] = metres(square, leg.first, leg.second);

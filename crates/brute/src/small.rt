@@ -2,7 +2,6 @@
 use crate::positions;
 use crate::roads;
 use crate::roads::LEGS;
-use crate::roads::Leg;
 use crate::roads::PLACES;
 use crate::roads::Square;
 use dayfile::Day;
@@ -61,20 +60,14 @@ fn set(square: Square, from: usize, to: usize, metres: u32) -> Square {
 }
 
 // A square with another leg, both ways.
-fn with(square: Square, leg: Leg, metres: u32) -> Square {
-    set(
-        set(square, leg.first, leg.second, metres),
-        leg.second,
-        leg.first,
-        metres,
-    )
+fn with(square: Square, first: usize, second: usize, metres: u32) -> Square {
+    set(set(square, first, second, metres), second, first, metres)
 }
 
-// Three places with these legs, in the order of a file.
+// Three places with these legs.
 pub(crate) fn three(first: u32, second: u32, third: u32) -> Square {
-    let one = with([[0; PLACES]; PLACES], roads::FIRST, first);
-    let two = with(one, roads::next(roads::FIRST), second);
-    with(two, roads::next(roads::next(roads::FIRST)), third)
+    let one = with([[0; PLACES]; PLACES], 0, 1, first);
+    with(with(one, 0, 2, second), 1, 2, third)
 }
 
 // Five places with legs from a source, each of metres below a bound or of twice as many.
@@ -85,7 +78,12 @@ pub(crate) fn five(source: Source, bound: u64, twice: bool) -> Square
     let mut from = source;
     let mut leg = roads::FIRST;
     for _ in 0..LEGS {
-        let longer = with(square, leg, metres(from.rest % bound, twice));
+        let longer = with(
+            square,
+            leg.first,
+            leg.second,
+            metres(from.rest % bound, twice),
+        );
         square = longer;
         from = behind(from, bound);
         leg = roads::next(leg);
