@@ -205,7 +205,8 @@ fn long(legs: usize, metres: u8, cranes: usize, calls: usize, last: u64, length:
     read_part(&file, length);
 }
 
-// Case A, given as its file. Legs 10, 25, 15 and a crane; the triangle rule; a crane alone. Then the metres of a leg, and the triangle rule over a leg of 0.
+// Case A, given as its file. Legs 10, 25, 15 and a crane; the triangle rule; a crane alone. Then the metres of a leg, and the triangle rule over a
+// leg of 0.
 pub(crate) fn metres(file: &[u8]) {
     line::begin(5);
     read(file);

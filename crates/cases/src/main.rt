@@ -27,8 +27,8 @@ fn read(file: &[u8]) {
     files::calls();
 }
 
-// Days, books and calls in memory, prints and sheets; `file` and `legs` are those of case A, `broken` are three legs that break the triangle rule,
-// and `short` are two of three.
+// Days, books and calls in memory, prints and sheets; `file` and `legs` are those of case A, `broken` are three legs that break the triangle
+// rule, and `short` are two legs for three places.
 fn memory(file: &[u8], legs: &[u32], broken: &[u32], short: &[u32]) {
     days::each();
     days::order(legs, broken);

@@ -39,7 +39,8 @@ pub(crate) fn rules() {
     alike(1, 0, 0);
 }
 
-// 65 and 0 places, 65 with no legs and with as many as they would have. Then 3 before 4, of the places and of the number of legs, and 4 before 8.
+// 65 places, with no legs and with as many as they would have, and 0 places. Then 3 before 4, of the places and of the number of legs, and 4
+// before 8.
 pub(crate) fn order() {
     line::begin(3);
     alike(65, 0, 0);
