@@ -25,7 +25,7 @@ use Rattle.workfunction.proofs.Witness.{witness-work}
 use Rattle.book.specs.Book.{mostStops, follower, weight, rangeRule}
 use Rattle.dispatch.specs.declared.insert.Pick.{Pick}
 use Rattle.dispatch.specs.Insertion.{leastEnd, picked, Found, Inserted, Unmoved, Roads, Kept, Answered, Netted}
-use Rattle.dispatch.specs.Legs.{legAt, LegTable, FollowerPut, CallAdded}
+use Rattle.dispatch.specs.Legs.{legAt, LegTable, FollowerPut, StopAdded}
 use Rattle.dispatch.specs.Search.{Witnessed}
 use Rattle.dispatch.proofs.Insertion.{inserted-plan, inserted-range, range-moved, netted-choice, found-netted, inserted-served}
 use Rattle.dispatch.proofs.LegTable.{table-leg, table-grown, table-moved}
@@ -57,7 +57,7 @@ module _ {n : ℕ} {d read : ℕ → ℕ → ℕ} (roads : Roads n d read) where
     kept-below = plan-facts (length starts) (stops starts calls) (follower plan) (kept .certified .planned) .below
 
     module _ (room : length calls < mostCalls) {r : ℕ} (asked : r < n) {longer : List ℕ}
-        (added : CallAdded read (stops starts calls) r costs longer) where
+        (added : StopAdded read (stops starts calls) r costs longer) where
       -- the table with the call
       longer-table : LegTable n d starts (calls ++ (r ∷ [])) stands longer
       longer-table = table-grown (kept .table) (roads .few) (kept .standing .cranes) (λ x l. roads .reads r x asked l) added

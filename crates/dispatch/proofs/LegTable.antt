@@ -15,7 +15,7 @@ use Rattle.workfunction.specs.Plan.{stops, place, legCost, freeCost}
 use Rattle.workfunction.proofs.Stops.{place-stand, place-last, place-early, place-crane, place-others}
 use Rattle.book.specs.Book.{mostStops}
 use Rattle.book.proofs.Places.{place-past}
-use Rattle.dispatch.specs.Legs.{cell, rowOf, legAt, Placed, Blank, LegTable, FreeTable, RowsFilled, FollowerPut, FollowersPut, ColumnFilled, CallAdded}
+use Rattle.dispatch.specs.Legs.{cell, followerRow, legAt, Rowed, Blank, LegTable, FreeTable, RowsFilled, FollowerPut, FollowersPut, ColumnFilled, StopAdded}
 
 module _ {n : ℕ} {d : ℕ → ℕ → ℕ} {starts calls stands costs : List ℕ} (table : LegTable n d starts calls stands costs) where
   -- a leg costs the metres from the stop to the follower's place
@@ -36,13 +36,13 @@ module _ {n : ℕ} {d : ℕ → ℕ → ℕ} {starts calls stands costs : List �
 
   -- with one call more, at r
   module _ (few : n ≤ mostPlaces) (aligned : length stands ≡ length starts) {read : ℕ → ℕ → ℕ} {r : ℕ} {costs' : List ℕ}
-      (reads : (x : ℕ) → x < n → read r x ≡ d r x) (added : CallAdded read (stops starts calls) r costs costs') where
+      (reads : (x : ℕ) → x < n → read r x ≡ d r x) (added : StopAdded read (stops starts calls) r costs costs') where
     metres-grown : (p x : ℕ) → (p ≡ stops starts calls) ⊎ (p < stops starts calls) → x < n
         → cell costs' (x + 1) p ≡ d (place starts (calls ++ (r ∷ [])) p) x
     metres-grown p x (inl e) l = rw (e, place-last starts calls r) (added .column x (le-trans l few) ∙ reads x l)
     metres-grown p x (inr h) l = rw (place-early starts calls r p h) (added .metres p x h (le-trans l few) ∙ table .metres p x h l)
 
-    rows-grown : (b : ℕ) → (b ≡ stops starts calls) ⊎ (b < stops starts calls) → rowOf costs' b ≡ place stands (calls ++ (r ∷ [])) b + 1
+    rows-grown : (b : ℕ) → (b ≡ stops starts calls) ⊎ (b < stops starts calls) → followerRow costs' b ≡ place stands (calls ++ (r ∷ [])) b + 1
     rows-grown b (inl e) = rw (e, ← aligned, place-last stands calls r) (rw aligned (added .row))
     rows-grown b (inr h) = rw (place-early stands calls r b (rw aligned h)) (added .rows b h ∙ table .rows b h)
 
@@ -64,14 +64,14 @@ module _ {n : ℕ} {d : ℕ → ℕ → ℕ} {starts calls stands costs : List �
     rows = λ b h. either b h (ℕ-discrete b s);
   }
     where
-      either : (b : ℕ) → b < stops starts calls → Dec (b ≡ s) → rowOf costs' b ≡ place (moved stands r s) calls b + 1
+      either : (b : ℕ) → b < stops starts calls → Dec (b ≡ s) → followerRow costs' b ≡ place (moved stands r s) calls b + 1
       either b h (yes e) = rw (e, place-crane stands calls r s crane) (put .row)
       either b h (no away) = rw (place-others stands calls r s b crane away) (put .others b away ∙ table .rows b h)
 
 -- a column is filled, then its stop is put at its place as a follower
-pub call-added : {read : ℕ → ℕ → ℕ} {N r : ℕ} {costs column costs' : List ℕ} → N < mostStops → ColumnFilled mostPlaces (read r) N costs column
-    → FollowerPut N r column costs' → CallAdded read N r costs costs'
-call-added {N = N} few filled put = record {
+pub stop-added : {read : ℕ → ℕ → ℕ} {N r : ℕ} {costs column costs' : List ℕ} → N < mostStops → ColumnFilled mostPlaces (read r) N costs column
+    → FollowerPut N r column costs' → StopAdded read N r costs costs'
+stop-added {N = N} few filled put = record {
   costed = put .costed;
   column = λ x l. put .cells (x + 1) N (omega arith) few ∙ filled .column x l;
   row = put .row;
@@ -81,7 +81,7 @@ call-added {N = N} few filled put = record {
 
 -- the row of a call, once the calls are put at their places
 call-row : (starts : List ℕ) {calls costs costs' : List ℕ} → FollowersPut (length calls) (length starts) calls costs costs' → (b : ℕ) → length starts ≤ b
-    → b < stops starts calls → rowOf costs' b ≡ getD calls (b - length starts) 0 + 1
+    → b < stops starts calls → followerRow costs' b ≡ getD calls (b - length starts) 0 + 1
 call-row starts put b le l =
     let e : length starts + (b - length starts) ≡ b = omega arith in rw e at (put .put (b - length starts) (omega arith))
 
@@ -97,7 +97,7 @@ module _ {read : ℕ → ℕ → ℕ} {starts calls costs rows : List ℕ} (few 
     rows = λ b h. either b h (decLt b (length starts));
   }
     where
-      either : (b : ℕ) → b < stops starts calls → Dec (b < length starts) → rowOf costs' b ≡ place stands calls b + 1
+      either : (b : ℕ) → b < stops starts calls → Dec (b < length starts) → followerRow costs' b ≡ place stands calls b + 1
       either b h (yes l) =
           let in-range : b < length stands = rw aligned l in
           rw (place-stand stands calls b in-range) (put .before b l ∙ rw (zero-add b) at (first .put b in-range))
@@ -109,11 +109,11 @@ module _ {read : ℕ → ℕ → ℕ} {starts calls costs rows : List ℕ} (few 
     unfolding cell
     blank-cell i p = blank .zero _
 
-    end-row : (b : ℕ) → b < length starts → rowOf costs' b ≡ 0
-    unfolding rowOf
+    end-row : (b : ℕ) → b < length starts → followerRow costs' b ≡ 0
+    unfolding followerRow
     end-row b m = put .before b m ∙ filled .rows b (omega arith) ∙ blank-cell _ b
 
-    pub free-filled : Placed calls → FreeTable read starts calls costs'
+    pub free-filled : Rowed calls → FreeTable read starts calls costs'
     unfolding legAt freeCost
     free-filled placed = record { costed = put .costed; leg = λ p b h l. either p b h l (decLt b (length starts)) }
       where

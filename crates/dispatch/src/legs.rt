@@ -9,7 +9,7 @@ ghost use Rattle.base.specs.Lists.{upTo};
 ghost use Rattle.road.specs.Table.{mostPlaces, metresOf, entry};
 ghost use Rattle.workfunction.specs.Plan.{stops, place};
 ghost use Rattle.book.specs.Book.{mostStops, startsOf, standsOf, requestsOf};
-ghost use Rattle.dispatch.specs.Legs.{rowOf, legAt, Costed, Blank, LegTable, FreeTable, RowsFilled, FollowerPut, FollowersGiven, FollowersPut, TableGiven, FreeGiven, BookGiven, ColumnFilled, CallAdded};
+ghost use Rattle.dispatch.specs.Legs.{followerRow, legAt, Costed, Blank, LegTable, FreeTable, RowsFilled, FollowerPut, FollowersGiven, FollowersPut, TableGiven, FreeGiven, BookGiven, ColumnFilled, StopAdded};
 
 // The length of a row.
 const ROW: usize = Book::STOPS;
@@ -30,7 +30,7 @@ pub(crate) fn zeros() -> [u32; COSTS]
 // The row of follower b.
 fn row_of(costs: &[u32], b: usize) -> usize
     requires { ⌜ (b < mostStops) × Costed (now costs) ⌝ }
-    ensures { λ r. ⌜ (r ≡ rowOf (now (costs .entry)) b) × (r ≤ mostPlaces) ⌝ }
+    ensures { λ r. ⌜ (r ≡ followerRow (now (costs .entry)) b) × (r ≤ mostPlaces) ⌝ }
 {
     costs[LAST + b] as usize
 }
@@ -160,7 +160,7 @@ fn fill_column(table: &[u32], from: usize, p: usize, costs: &mut [u32])
 // The call of the number `new`, at `place`, is added to the table: one column, and its row as a follower.
 pub(crate) fn extend(table: &[u32], new: usize, place: u16, costs: &mut [u32])
     requires { ⌜ (new < mostStops) × ((place < mostPlaces) × Costed (now costs)) ⌝ }
-    ensures { λ _. ⌜ CallAdded (entry (metresOf (now (table .entry)))) new place (now (costs .entry)) (now (costs .exit)) ⌝ }
+    ensures { λ _. ⌜ StopAdded (entry (metresOf (now (table .entry)))) new place (now (costs .entry)) (now (costs .exit)) ⌝ }
 {
     fill_column(table, place as usize, new, costs);
     put(new, place, costs);

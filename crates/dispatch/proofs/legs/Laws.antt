@@ -13,11 +13,11 @@ use Rattle.workfunction.specs.Plan.{stops, place}
 use Rattle.workfunction.proofs.Stops.{place-stand}
 use Rattle.book.specs.Book.{mostStops}
 use Rattle.book.proofs.Places.{place-past}
-use Rattle.dispatch.specs.Legs.{cell, rowOf, Costed}
+use Rattle.dispatch.specs.Legs.{cell, followerRow, Costed}
 
 -- a table whose followers keep their rows
 pub costed-kept : {costs costs' : List ℕ} → Costed costs → length costs' ≡ length costs
-    → ((b : ℕ) → b < mostStops → rowOf costs' b ≡ rowOf costs b) → Costed costs'
+    → ((b : ℕ) → b < mostStops → followerRow costs' b ≡ followerRow costs b) → Costed costs'
 costed-kept k long same = record { long = rw long (k .long); rows = λ b h. rw (same b h) (k .rows b h) }
 
 -- the number in row i, column p is written

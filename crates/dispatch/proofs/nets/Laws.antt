@@ -18,7 +18,7 @@ use Rattle.book.specs.declared.Book.{Book}
 use Rattle.book.specs.Book.{startsOf, standsOf, requestsOf, stopsOf, follower, BookArrays}
 use Rattle.book.proofs.Sound.{Fits, starts-long, requests-long, stops-long, sound-fits}
 use Rattle.dispatch.specs.Insertion.{Found, Kept, BookNetted}
-use Rattle.dispatch.specs.Legs.{legAt, CallAdded}
+use Rattle.dispatch.specs.Legs.{legAt, StopAdded}
 use Rattle.dispatch.specs.NetCosts.{NetList, netsByCrane}
 use Rattle.dispatch.specs.Search.{at, netBase}
 use Rattle.dispatch.proofs.Answered.{kept-most, kept-present, kept-netted}
@@ -31,14 +31,14 @@ module _ {book : Book} {n : ℕ} {t : Table} {r : ℕ} (arrays : BookArrays book
   fits = sound-fits arrays (called .sound)
 
   -- the call follows the book's stops
-  pub call-last : {costs longer : List ℕ} → CallAdded (entry (metresOf t)) (stopsOf book) r costs longer
-      → CallAdded (entry (metresOf t)) (stops (startsOf book) (requestsOf book)) r costs longer
+  pub call-last : {costs longer : List ℕ} → StopAdded (entry (metresOf t)) (stopsOf book) r costs longer
+      → StopAdded (entry (metresOf t)) (stops (startsOf book) (requestsOf book)) r costs longer
   call-last added = rw (stops-long fits) added
 
   -- what the search delivers of a book, over the legs with the call
   pub book-netted : {costs longer plan nets : List ℕ} {total parent rank before : ℕ → ℕ}
       → Kept n (metresOf t) (startsOf book) (requestsOf book) (standsOf book) (book .plan) (book .weights) costs
-      → CallAdded (entry (metresOf t)) (stopsOf book) r costs longer
+      → StopAdded (entry (metresOf t)) (stopsOf book) r costs longer
       → plan ≡ set (book .plan) (stopsOf book) (stopsOf book)
       → Found (book .cranes) (stopsOf book) (follower plan) (legAt longer) total parent rank before (at nets)
       → BookNetted book n t r nets longer

@@ -1,7 +1,7 @@
 -- `dispatch::legs::extend` meets its contract: the column of the call is filled, then the call is put at its place as a follower.
 -- Assumes nothing.
 use borrow.Author.Needs.{needs}
-use Rattle.dispatch.proofs.LegTable.{call-added}
+use Rattle.dispatch.proofs.LegTable.{stop-added}
 use Rattle.dispatch.proofs.legs.Laws.{costed-kept}
 use Rattle.dispatch.proofs.legs.extend.Statement.{statement}
 use Rattle.dispatch.proofs.legs.extend.Tie as tie
@@ -23,7 +23,7 @@ returns : tie.Need-returns
 returns c =
     let w = c .before .before in
     let f = w .before .before .before .before in
-    call-added (f .before .before .before .before .pre .0) (f .fill-column .ensures) (w .put .ensures)
+    stop-added (f .before .before .before .before .pre .0) (f .fill-column .ensures) (w .put .ensures)
 
 pub extend-spec : {M : Type 1} → statement M
 extend-spec = tie.close (tie.spec fill-column-requires put-requires same-length returns)

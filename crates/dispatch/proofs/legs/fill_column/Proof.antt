@@ -8,7 +8,7 @@ use native.Mathlib.Omega.{arith}
 use Rattle.base.proofs.Tests.{one-more}
 use Rattle.road.specs.Table.{mostPlaces, metresOf, entry}
 use Rattle.book.specs.Book.{mostStops}
-use Rattle.dispatch.specs.Legs.{cell, rowOf, Costed, ColumnFilled}
+use Rattle.dispatch.specs.Legs.{cell, followerRow, Costed, ColumnFilled}
 use Rattle.dispatch.proofs.legs.Laws.{cell-written, cell-kept}
 use Rattle.dispatch.proofs.legs.fill_column.Statement.{statement}
 use Rattle.dispatch.proofs.legs.fill_column.Tie as tie
@@ -29,7 +29,7 @@ module _ (to : ℕ → ℕ) (p : ℕ) (old : List ℕ) where
 
   column-turned : (now : List ℕ) (x v : ℕ) → Filling now x → p < mostStops → Costed old → x < mostPlaces → v ≡ to x
       → Filling (set now (mostStops * (x + 1) + p) v) (x + 1)
-  unfolding rowOf
+  unfolding followerRow
   column-turned now x v f col k lt e =
       let long = f .long in
       let fits = k .long in

@@ -10,7 +10,7 @@ use Rattle.base.proofs.Tests.{one-more}
 use Rattle.road.specs.Table.{mostPlaces, metresOf, entry}
 use Rattle.workfunction.specs.Plan.{stops, place}
 use Rattle.book.specs.Book.{mostStops}
-use Rattle.dispatch.specs.Legs.{cell, rowOf, Costed, RowsFilled}
+use Rattle.dispatch.specs.Legs.{cell, followerRow, Costed, RowsFilled}
 use Rattle.dispatch.proofs.legs.Laws.{lent, rowBack, length-row, row-new, row-kept}
 use Rattle.dispatch.proofs.legs.fill_rows.Statement.{statement}
 use Rattle.dispatch.proofs.legs.fill_rows.Tie as tie
@@ -34,7 +34,7 @@ module _ (read : ℕ → ℕ → ℕ) (starts calls old : List ℕ) where
 
   rows-turned : (now row : List ℕ) (x : ℕ) → Filling now x → n ≤ mostStops → Costed old → x < mostPlaces
       → row ≡ upTo (length (lent now (x + 1) n)) (λ p. read (place starts calls p) x) → Filling (rowBack now (x + 1) n row) (x + 1)
-  unfolding rowOf
+  unfolding followerRow
   rows-turned now row x f few k lt same =
       let g : ℕ → ℕ = λ p. read (place starts calls p) x in
       let long = f .long in

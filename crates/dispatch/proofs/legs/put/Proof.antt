@@ -9,7 +9,7 @@ use native.Mathlib.Decide.{ℕ-discrete}
 use native.Mathlib.Omega.{arith}
 use Rattle.road.specs.Table.{mostPlaces}
 use Rattle.book.specs.Book.{mostStops}
-use Rattle.dispatch.specs.Legs.{cell, rowOf, Costed, FollowerPut}
+use Rattle.dispatch.specs.Legs.{cell, followerRow, Costed, FollowerPut}
 use Rattle.dispatch.proofs.legs.put.Statement.{statement}
 use Rattle.dispatch.proofs.legs.put.Tie as tie
 
@@ -17,12 +17,12 @@ module _ (b r : ℕ) (costs : List ℕ) (follower : b < mostStops) (on : r < mos
   abbrev index : ℕ
   index = mostStops * (mostPlaces + 1) + b
 
-  own : rowOf (set costs index (r + 1)) b ≡ r + 1
-  unfolding cell rowOf
+  own : followerRow (set costs index (r + 1)) b ≡ r + 1
+  unfolding cell followerRow
   own = let long = k .long in getD-set-same costs index (r + 1) 0 (omega arith)
 
-  other : (a : ℕ) → (a ≡ b → ⊥) → rowOf (set costs index (r + 1)) a ≡ rowOf costs a
-  unfolding cell rowOf
+  other : (a : ℕ) → (a ≡ b → ⊥) → followerRow (set costs index (r + 1)) a ≡ followerRow costs a
+  unfolding cell followerRow
   other a away =
       getD-set-other costs index (mostStops * (mostPlaces + 1) + a) (r + 1) 0 (λ (e : mostStops * (mostPlaces + 1) + a ≡ index). away (omega arith))
 
@@ -35,7 +35,7 @@ module _ (b r : ℕ) (costs : List ℕ) (follower : b < mostStops) (on : r < mos
     cells = λ i p le lt. getD-set-other costs index (mostStops * i + p) (r + 1) 0 (λ (e : mostStops * i + p ≡ index). omega arith);
   }
     where
-      either : (a : ℕ) → a < mostStops → Dec (a ≡ b) → rowOf (set costs index (r + 1)) a ≤ mostPlaces
+      either : (a : ℕ) → a < mostStops → Dec (a ≡ b) → followerRow (set costs index (r + 1)) a ≤ mostPlaces
       either a h (yes e) = rw (e, own) (omega arith)
       either a h (no away) = rw (other a away) (k .rows a h)
 

@@ -7,7 +7,7 @@ use lib.ListN.{length, getD}
 use native.Mathlib.Nat.{le-antisymm}
 use native.Mathlib.Omega.{arith}
 use Rattle.base.proofs.Tests.{one-more}
-use Rattle.dispatch.specs.Legs.{rowOf, Costed, FollowerPut, FollowersPut}
+use Rattle.dispatch.specs.Legs.{followerRow, Costed, FollowerPut, FollowersPut}
 use Rattle.dispatch.proofs.legs.put_all.Statement.{statement}
 use Rattle.dispatch.proofs.legs.put_all.Tie as tie
 
@@ -32,7 +32,7 @@ module _ (places : List ℕ) (first : ℕ) (old : List ℕ) where
     long = same ∙ f .long;
     done = record {
       costed = p .costed;
-      put = one-more (λ j. rowOf now' (first + j) ≡ getD places j 0 + 1) i (p .row)
+      put = one-more (λ j. followerRow now' (first + j) ≡ getD places j 0 + 1) i (p .row)
           (λ j h. p .others (first + j) (λ e. omega arith) ∙ f .done .put j h);
       before = λ b h. p .others b (λ e. omega arith) ∙ f .done .before b h;
       cells = λ j q le h. p .cells j q le h ∙ f .done .cells j q le h;

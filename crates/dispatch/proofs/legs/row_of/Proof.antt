@@ -5,7 +5,7 @@ use borrow.Author.Needs.{needs}
 use native.Mathlib.Omega.{arith}
 use Rattle.road.specs.Table.{mostPlaces}
 use Rattle.book.specs.Book.{mostStops}
-use Rattle.dispatch.specs.Legs.{cell, rowOf}
+use Rattle.dispatch.specs.Legs.{cell, followerRow}
 use Rattle.dispatch.proofs.legs.row_of.Statement.{statement}
 use Rattle.dispatch.proofs.legs.row_of.Tie as tie
 
@@ -22,7 +22,7 @@ cast-result : tie.Need-cast-result
 cast-result c = omega (arith, c .shared-slice-known .given (mostStops * (mostPlaces + 1) + c .before .args .b))
 
 returns : tie.Need-returns
-unfolding cell rowOf
+unfolding cell followerRow
 returns c = (refl, c .before .pre .1 .rows _ (c .before .pre .0))
 
 pub row-of-spec : {M : Type 1} → statement M

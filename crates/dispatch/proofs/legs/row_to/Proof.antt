@@ -9,11 +9,11 @@ use native.Mathlib.Omega.{arith}
 use Rattle.base.specs.Lists.{upTo}
 use Rattle.base.proofs.Lists.{part-upTo}
 use Rattle.book.specs.Book.{mostStops}
-use Rattle.dispatch.specs.Legs.{cell, rowOf, legAt}
+use Rattle.dispatch.specs.Legs.{cell, followerRow, legAt}
 use Rattle.dispatch.proofs.legs.row_to.Statement.{statement}
 use Rattle.dispatch.proofs.legs.row_to.Tie as tie
 
-part : (costs : List ℕ) (b end r : ℕ) → r ≡ rowOf costs b → mostStops * r + end ≤ length costs
+part : (costs : List ℕ) (b end r : ℕ) → r ≡ followerRow costs b → mostStops * r + end ≤ length costs
     → take (mostStops * r + end - mostStops * r) (drop (mostStops * r) costs) ≡ upTo end (λ p. legAt costs p b)
 unfolding cell legAt
 part costs b end r e fits =

@@ -5,12 +5,12 @@ use native.Mathlib.Nat.{le-refl}
 use Rattle.base.proofs.Lists.{replicate-at}
 use Rattle.road.specs.Table.{mostPlaces}
 use Rattle.book.specs.Book.{mostStops}
-use Rattle.dispatch.specs.Legs.{cell, rowOf}
+use Rattle.dispatch.specs.Legs.{cell, followerRow}
 use Rattle.dispatch.proofs.legs.zeros.Statement.{statement}
 use Rattle.dispatch.proofs.legs.zeros.Tie as tie
 
 returns : tie.Need-returns
-unfolding cell rowOf
+unfolding cell followerRow
 returns c =
     record {
       costed = record {
