@@ -9,9 +9,9 @@ pub enum Refusal {
     Length,
     // The kind of a record, or a byte of it that must be 0.
     Record,
-    // A record out of order, or legs missing; in memory, the number of places.
+    // A record out of order, or legs missing; in memory, the number of places, or a table that has not as many legs.
     Order,
-    // The metres of a leg; in memory, a self-leg or two directions too.
+    // The metres of a leg.
     Metres,
     // A place not below the number of places.
     Place,

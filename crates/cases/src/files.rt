@@ -82,14 +82,10 @@ const SHORT: usize = 48;
 // One record more than the longest file has.
 const LONG: usize = Day::FILE_LENGTH + Day::RECORD_LENGTH;
 
-// Whether a file that is read is written back byte for byte, by its day and the legs of its table.
-fn comes_back(bytes: &[u8], day: Day, table: &[u32]) -> bool {
+// Whether the file of a day and its legs has these bytes.
+fn writes(day: Day, legs: &[u32], bytes: &[u8]) -> bool {
     let mut buffer = [7; Day::FILE_LENGTH];
-    let legs = Road::legs(day.places);
-    if table.len() < legs {
-        return false;
-    }
-    let written = day.write(&table[0..legs], &mut buffer);
+    let written = day.write(legs, &mut buffer);
     let verdict = written.verdict;
     let Verdict::Accepted = verdict else {
         return false;
@@ -99,6 +95,15 @@ fn comes_back(bytes: &[u8], day: Day, table: &[u32]) -> bool {
         return false;
     }
     check::same(bytes, &buffer[0..length])
+}
+
+// Whether a day that is read of a file is written back byte for byte, with the legs of the table that is read.
+fn comes_back(day: Day, table: &[u32], bytes: &[u8]) -> bool {
+    let legs = Road::legs(day.places);
+    if table.len() < legs {
+        return false;
+    }
+    writes(day, &table[0..legs], bytes)
 }
 
 // The sum of all entries of a table.
@@ -120,7 +125,7 @@ fn read(bytes: &[u8]) {
     line::number(reading.index as u64);
     let table = reading.table;
     let entries = &table[..];
-    line::number(comes_back(bytes, reading.day, entries) as u64);
+    line::number(comes_back(reading.day, entries, bytes) as u64);
     line::number(sum(entries));
     line::comma();
 }

@@ -54,9 +54,9 @@ fn legend() {
         b"Tables: the number of the test.
 1 the triangle rule kept and broken, the last two over a leg of 0
 2 1000000, 1000001 and 0 metres; one place
-3 65 places by no number and by 2080, 0 by none; 3 before 4, of the places and of the length; 4 before 8
+3 65 places by 0 numbers and by 2080, 0 places; 3 before 4, of the places and of the legs; 4 before 8
 4 three places by 2 numbers and by 4, two by 3, one by 1; 64 by 2016, 2015 and 2017; 63 by 2016
-Files: the number, the record, whether the day that was read is written back the same, and the sum of all entries of its table.
+Files: the number, the record, whether the day that was read is written back the same, and the sum of its table.
 5 case A; triangles and metres, the last two over a leg of 0
 6 lengths
 7 other kinds and bytes that are not 0
@@ -69,17 +69,17 @@ Files: the number, the record, whether the day that was read is written back the
 14 256 calls and 257
 15 the longest and longer
 Days in memory: the numbers of the test, of a fresh book, of the served day and of a sheet into no room; of a write the number, the length and whether the rest is as before.
-16 accepted, and by each number; legs 10, 0, 15; one place by no number and by 1; three by 2 and 4; 64 by 2016 and 2015
-17 3 before 6, of the places, of 2 numbers for three and of 4; 6 before 7 before 4 before 5 before 8
+16 accepted, and by each number; legs 10, 0, 15; one place by 0 numbers and 1, three by 2 and 4, 64 by 2016 and 2015
+17 3 before 6: no place, three by 2 numbers and 4; 6 before 7 before 4 before 5 before 8
 18 into 95 bytes, the same by 8, into 96 and 97
 Books: the number of the test; the number of the costs, least and floor; the number of the net costs, and whether all are 0; the number of the quote, and whether the rest of it is 0; the number of the commit, and whether its least is 0 and its book the same.
 19 one crane and no call; sixteen and 256; one crane over one place, and over 64
-20 65 places; three by 2 numbers and by 4, one by 1, 64 by 2015; other counts, places past the last, and legs
+20 65 places; three by 2 numbers and 4, one by 1, 64 by 2015; other counts, places past the last, legs
 21 a stand named twice, a follower out of range, back to an earlier call
 22 a crane driven away, and its weight raised
 23 weights
 24 sixteen cranes and 256 calls: 256000000 metres, and one more; one crane and no call: 1 metre, and 4294967295 past the crane
-25 3 before 6, of the places, of 2 numbers for three and of 4; 6 before 7 before 4 before 5 before 8 before 9 before 10 before 13, then 5 before 12 before 7
+25 3 before 6: no place, three by 2 numbers and 4; 6 before 7 before 4 before 5 before 8 before 9 before 10 before 13, then 5 before 12 before 7
 26 one crane: crane 0, crane 1 and the highest number; sixteen: crane 15 and crane 16
 27 a fresh one, that of a day refused by 8, and by 3
 28 a book filled, quotes and commits accepted, and one more

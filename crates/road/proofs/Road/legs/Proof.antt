@@ -1,7 +1,7 @@
 -- `road::Road::legs` meets its contract: the product fits, there being at most `mostPlaces`.
 -- Assumes nothing.
 use Prim.Native.Nat.{ℕ, _*_, _≤_}
-use mathlib.Core.Path.{_≡_, sym}
+use mathlib.Core.Path.{sym}
 use borrow.Author.Needs.{needs}
 use borrow.Author.Tests.{lt-leb}
 use mir.Syntax.{w64}
