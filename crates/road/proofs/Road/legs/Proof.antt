@@ -28,7 +28,7 @@ mul-result c = product _ _ (omega (arith, c .if2 .taken)) (omega (arith, c .if2 
 
 returns-2 : tie.Need-returns-2
 unfolding legCount
-returns-2 c = sym (legs-counted _ (c .if2 .taken))
+returns-2 c = sym (legs-counted (c .before .before .args .places) (omega (arith, c .if2 .taken)))
 
 returns-3 : tie.Need-returns-3
 returns-3 c = rw (lt-leb _ mostPlaces (c .if2 .left))

@@ -21,7 +21,7 @@ returns c =
     handed-up _ (e .0 .0) (e .1) _ _ (c .before .before .test-run .ensures)
 
 test-requires : tie.Need-test-requires
-test-requires c κs = search needs
+test-requires c κs = let held = run-held _ _ _ (c .enum-told .given .1) (c .before .before .test-run .ensures) in search needs
 
 enum-told-3 : tie.Need-enum-told-3
 enum-told-3 c = search needs

@@ -2,6 +2,7 @@
 -- Assumes nothing.
 use borrow.Author.Needs.{needs}
 use Rattle.base.proofs.Numbers.{goes-on, handed-up}
+use Rattle.road.proofs.Table.{run-held}
 use Rattle.road.proofs.Road.test_legs.Statement.{statement}
 use Rattle.road.proofs.Road.test_legs.Tie as tie
 
@@ -20,7 +21,7 @@ returns c =
     handed-up _ (e .0 .0) (e .1) _ _ (c .before .before .test-run .ensures)
 
 test-requires : tie.Need-test-requires
-test-requires c κs = search needs
+test-requires c κs = let held = run-held _ _ _ (c .enum-told .given .1) (c .before .before .test-run .ensures) in search needs
 
 returns-2 : tie.Need-returns-2
 returns-2 c =

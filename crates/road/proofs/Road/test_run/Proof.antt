@@ -4,6 +4,7 @@ use Prim.Native.Nat.{ℕ}
 use mathlib.Core.Path.{_≡_, sym, _∙_}
 use borrow.Author.Needs.{needs}
 use borrow.Author.Tests.{eq-eqb, ne-eqb}
+use native.Mathlib.Omega.{arith}
 use Rattle.base.specs.declared.Verdict.{Verdict}
 use Rattle.base.specs.declared.Verdict.the-variants.{Accepted}
 use Rattle.base.specs.Numbers.{numberOf}
@@ -48,7 +49,8 @@ legs-requires c κs = search needs
 returns-2 : tie.Need-returns-2
 returns-2 c =
     let l = c .before .before in
-    other-length _ _ _ (l .enum-told .given .1) (l .before .before .test-places .ensures) (c .before .legs .ensures) _ (c .if1 .taken)
+    other-length _ _ _ (l .enum-told .given .1) (l .before .before .test-places .ensures) (c .before .legs .ensures) _
+    (λ e. omega (arith, c .if1 .taken))
 
 returns-3 : tie.Need-returns-3
 returns-3 c =

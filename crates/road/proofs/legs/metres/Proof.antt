@@ -36,7 +36,7 @@ returns-2 : tie.Need-returns-2
 returns-2 c =
     let l = c .before .before in
     let s = l .before .before in
-    sym (List·getD-eq-default (s .args .table .now) 0 (c .if2 .taken))
+    sym (List·getD-eq-default (s .args .table .now) 0 {n = c .before .legs .result + s .args .u} (omega (arith, c .if2 .taken)))
     ∙ there (s .args .v) _ (c .before .before .if1 .left) (c .before .legs .ensures) (s .args .table .now) (s .args .u) (s .pre)
 
 mul-result : tie.Need-mul-result
