@@ -4,7 +4,7 @@ use Prim.Native.Nat.{ℕ, zero, suc, _+_, _-_, _<_, _≤_, zero-le, suc-le-suc}
 use mathlib.Core.List.{List, [], _∷_, _++_, map, append-assoc}
 use mathlib.Core.Path.{_≡_, refl, sym, ap, subst, _∙_}
 use lib.ListN.{length, getD, set, take, drop, replicate, length-replicate, length-set, length-append, length-drop, take-append-drop, List·getD-append}
-use lib.Seq.{set-at, drop-cons, take-at, drop-at, drop-drop, length-take-le, append-snoc, getD-take, getD-drop, getD-append-add, ext-getD}
+use lib.Seq.{set-at, set-split, drop-cons, take-at, drop-at, drop-drop, length-take-le, append-snoc, getD-take, getD-drop, getD-append-add, ext-getD}
 use native.Mathlib.Nat.{add-zero, zero-add, suc-add, add-assoc, not-suc-le-zero, le-of-suc-le-suc, le-antisymm, sub-zero, zero-sub, suc-sub-suc}
 use native.Mathlib.Numerals.{add-one}
 use native.Mathlib.Omega.{arith}
@@ -196,3 +196,20 @@ module _ (text : ℕ → List ℕ) (at : ℕ) (old : List ℕ) (n : ℕ) where
 
   pub splice-ended : (now : List ℕ) (i : ℕ) → Spliced text at old n now i → n ≤ i → now ≡ splice at (text n) old
   splice-ended now i p le = subst (λ (k : ℕ). now ≡ splice at (text k) old) (le-antisymm (p .most) le) (p .same)
+
+-- an entry written
+splice-one : (at a : ℕ) (old : List ℕ) → at < length old → set old at a ≡ splice at (a ∷ []) old
+unfolding splice
+splice-one at a old h = set-split old at a h ∙ rw add-one
+
+-- the entries of a rule, one by each turn
+module _ (f : ℕ → ℕ) (at : ℕ) (old : List ℕ) (n : ℕ) (fits : at + n ≤ length old) where
+  pub entries-begun : Spliced (λ i. upTo i f) at old n old 0
+  unfolding upTo
+  entries-begun = splice-begun (λ i. upTo i f) at old n refl (omega arith)
+
+  pub entries-turned : (now : List ℕ) (i a : ℕ) → Spliced (λ i. upTo i f) at old n now i → i < n → a ≡ f i
+      → Spliced (λ i. upTo i f) at old n (set now (at + i) a) (i + 1)
+  entries-turned now i a p lt e =
+      splice-turned (λ i. upTo i f) at old n now _ (f i ∷ []) i (upTo-more i f) (rw length-upTo (omega arith)) p lt
+      (rw (length-upTo i f, ← e) (splice-one (at + i) a now (omega (arith, p .long))))

@@ -1,7 +1,7 @@
 -- The legs in order: how many there are, the index of each, and lists that have an entry for each.
 -- Assumes nothing.
 use Prim.Native.Nat.{ℕ, zero, suc, _+_, _-_, _*_, _<_, _≤_, zero-le, suc-le-suc}
-use mathlib.Core.List.{List, _++_}
+use mathlib.Core.List.{List, _++_, map, map-append}
 use mathlib.Core.Logic.{⊎-elim}
 use mathlib.Core.Path.{_≡_, refl, sym, ap, ap₂, subst, _∙_}
 use borrow.Author.Tests.{le-leb, lt-leb}
@@ -12,7 +12,7 @@ use native.Mathlib.Nat.{mul-comm, mul-suc, add-mul-div-right, zero-lt-suc, not-s
 use native.Mathlib.Numerals.{add-one, sub-one}
 use native.Mathlib.Omega.{arith}
 use Rattle.base.specs.Lists.{upTo}
-use Rattle.base.proofs.Lists.{length-upTo, getD-upTo, getD-behind, upTo-same, part-upTo}
+use Rattle.base.proofs.Lists.{length-upTo, getD-upTo, getD-behind, upTo-same, map-upTo, part-upTo}
 use Rattle.road.specs.Table.{mostPlaces, mostLegs, legCount, inOrder, legIndex, legsOf}
 
 twice : (w : ℕ) → suc (suc w) * suc w ≡ suc w * w + suc w * 2
@@ -28,11 +28,11 @@ leg-count-suc (suc w) =
 pub leg-count-more : (v : ℕ) → legCount (v + 1) ≡ legCount v + v
 leg-count-more v = rw add-one (leg-count-suc v)
 
-no-legs : legCount 0 ≡ 0
+pub no-legs : legCount 0 ≡ 0
 unfolding legCount
 no-legs = refl
 
-all-legs : legCount mostPlaces ≡ mostLegs
+pub all-legs : legCount mostPlaces ≡ mostLegs
 unfolding legCount
 all-legs = refl
 
@@ -102,3 +102,9 @@ module _ {A : Type 0} (f : ℕ → ℕ → A) where
       rw (e, take-add (legCount n) n all)
       (ap₂ (λ (x y : List A). x ++ y) (in-order-out z all n (λ u v p q. h u v p (le-of-lt (suc-le-suc q))) (omega arith))
       (part-upTo n all (legCount n) z (omega arith) ∙ upTo-same n _ _ (λ u p. h u n p (le-refl (suc n)))))
+
+-- each entry by a rule
+pub map-in-order : {A B : Type 0} (g : A → B) (f : ℕ → ℕ → A) (n : ℕ) → map g (inOrder f n) ≡ inOrder (λ u v. g (f u v)) n
+unfolding inOrder
+map-in-order g f zero = refl
+map-in-order g f (suc v) = map-append g (inOrder f v) _ ∙ rw (map-in-order g f v, map-upTo g v (λ u. f u v))
