@@ -112,6 +112,13 @@ read-arrays bs h =
     rw (file-read bs (records bs) (t .0) (t .1))
     (record { starts = length-padded mostCranes _ _ 0 (counts .cranes); requests = length-padded mostCalls _ _ 0 (counts .calls) })
 
+-- an accepted file has the records of the day and the table that are read
+pub file-records : (bs : List ℕ) → readFile bs .number ≡ 0 → records bs ≡ dayRecords (readFile bs .day) (metresOf (readTable bs))
+unfolding dayOf
+file-records bs h =
+    let t = accepted-file bs h in
+    rw (file-read bs (records bs) (t .0) (t .1)) (sym (records-read bs (records bs) (t .0) (t .1)))
+
 -- file → day → file: in a buffer that is long enough the same bytes are written
 pub file-round-trip : (bs out : List ℕ) → ((i : ℕ) → getD bs i 0 < 256) → readFile bs .number ≡ 0 → length bs ≤ length out
     → writeFile (readFile bs .day) (readTable bs) out ≡ record { number = 0; length = length bs; buffer = splice 0 bs out }

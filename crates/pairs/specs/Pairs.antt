@@ -13,12 +13,12 @@ use Rattle.pairs.specs.declared.Pair.{Pair}
 use Rattle.pairs.specs.declared.PairFound.{PairFound}
 
 -- the two places of the leg (u,v)
-abbrev pub leg : ℕ → ℕ → Pair
-leg u v = record { first = u; second = v }
+abbrev pub legPair : ℕ → ℕ → Pair
+legPair u v = record { first = u; second = v }
 
 -- paper 7: "the two places of each leg in file order", of the legs between the places below n
 abbrev pub pairs : ℕ → List Pair
-pairs n = inOrder leg n
+pairs n = inOrder legPair n
 
 -- a list of pairs as two columns
 abbrev pub columnsOf : List Pair → Columns
@@ -43,7 +43,7 @@ pairFound r = record { number = numberOf (r .verdict); pair = r .pair }
 -- paper 7: "with a lookup by index"
 unfoldable pub pairAtOf : ℕ → PairTold
 pairAtOf i =
-    unlessRefused (indexRefusal i) (record { number = 0; pair = getD (pairs mostPlaces) i (leg 0 0) }) (λ n. record { number = n; pair = leg 0 0 })
+    unlessRefused (indexRefusal i) (record { number = 0; pair = getD (pairs mostPlaces) i (legPair 0 0) }) (λ n. record { number = n; pair = legPair 0 0 })
 
 -- an index that is found: the number, 0 where the pair is a leg, and its index
 pub record IndexTold : Type 0 where

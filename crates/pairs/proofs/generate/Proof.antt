@@ -14,7 +14,7 @@ use Rattle.road.specs.Table.{mostPlaces, mostLegs, legCount, inOrder}
 use Rattle.road.proofs.Order.{no-legs, all-legs, legs-before, leg-count-more, in-order-more, map-in-order}
 use Rattle.pairs.specs.declared.Columns.{Columns}
 use Rattle.pairs.specs.declared.Pair.{Pair}
-use Rattle.pairs.specs.Pairs.{leg, pairs, columnsOf}
+use Rattle.pairs.specs.Pairs.{legPair, pairs, columnsOf}
 use Rattle.pairs.proofs.generate.Statement.{statement}
 use Rattle.pairs.proofs.generate.Tie as tie
 
@@ -56,7 +56,7 @@ module _ (f : ℕ → ℕ → ℕ) where
 columns : (firsts seconds : List ℕ) → firsts ≡ inOrder (λ u w. u) mostPlaces → seconds ≡ inOrder (λ u w. w) mostPlaces
     → _≡_ {A = Columns} (record { firsts = firsts; seconds = seconds }) (columnsOf (pairs mostPlaces))
 columns firsts seconds e g =
-    rw (e, g, map-in-order (λ (p : Pair). p .first) leg mostPlaces, map-in-order (λ (p : Pair). p .second) leg mostPlaces)
+    rw (e, g, map-in-order (λ (p : Pair). p .first) legPair mostPlaces, map-in-order (λ (p : Pair). p .second) legPair mostPlaces)
 
 abbrev Inv-loop : tie.InvT-loop
 Inv-loop firsts₀ seconds₀ v₀ firsts seconds v = Begins (λ u w. u) firsts v × Begins (λ u w. w) seconds v

@@ -8,16 +8,16 @@ use Rattle.base.proofs.Numbers.{accepts, refused-number}
 use Rattle.road.specs.Table.{mostPlaces, mostLegs}
 use Rattle.pairs.specs.declared.Columns.{Columns}
 use Rattle.pairs.specs.declared.Pair.{Pair}
-use Rattle.pairs.specs.Pairs.{leg, pairs, columnsOf, indexRefusal}
+use Rattle.pairs.specs.Pairs.{legPair, pairs, columnsOf, indexRefusal}
 use Rattle.pairs.proofs.Pairs.{index-below, pair-refused, pair-accepted}
 use Rattle.pairs.proofs.pair_at.Statement.{statement}
 use Rattle.pairs.proofs.pair_at.Tie as tie
 
 -- what the columns have at an index
 columns-at : (c : Columns) (i : ℕ) → c ≡ columnsOf (pairs mostPlaces)
-    → _≡_ {A = Pair} (record { first = getD (c .firsts) i 0; second = getD (c .seconds) i 0 }) (getD (pairs mostPlaces) i (leg 0 0))
+    → _≡_ {A = Pair} (record { first = getD (c .firsts) i 0; second = getD (c .seconds) i 0 }) (getD (pairs mostPlaces) i (legPair 0 0))
 columns-at c i e =
-    rw (e, List·getD-map (λ (p : Pair). p .first) (pairs mostPlaces) i (leg 0 0), List·getD-map (λ (p : Pair). p .second) (pairs mostPlaces) i (leg 0 0))
+    rw (e, List·getD-map (λ (p : Pair). p .first) (pairs mostPlaces) i (legPair 0 0), List·getD-map (λ (p : Pair). p .second) (pairs mostPlaces) i (legPair 0 0))
 
 -- what the test tells once it accepted
 tested : (c : tie.After-enum-told) → indexRefusal (c .before .before .before .args .index) ≡ 0

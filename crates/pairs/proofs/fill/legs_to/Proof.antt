@@ -71,8 +71,7 @@ loop-less c = search needs
 
 loop-again : tie.Need-loop-again Inv-loop μ-loop
 loop-again c =
-    let l = c .before in
-    (
+    let l = c .before in (
       entries-turned _ _ _ _ (firsts-fit (l .before)) _ _ _ (l .loop .inv .0) (c .loop-test .taken) refl,
       entries-turned _ _ _ _ (seconds-fit (l .before)) _ _ _ (l .loop .inv .1) (c .loop-test .taken) refl,
     )
