@@ -5,6 +5,7 @@ mod calls;
 mod days;
 mod entries;
 mod files;
+mod legs;
 mod line;
 mod nets;
 mod prints;
@@ -95,7 +96,12 @@ Sheets: the rows, the number, the length and whether the rest is as before.
 34 case A into 83, 84 and 85 bytes; legs 10, 26, 15 into 83 and 84; 2 numbers into 84
 35 no calls into no bytes and into 85
 36 case A, with numbers past the counts that break every rule
-37 the last row of 256 calls; place 63 and crane 15",
+37 the last row of 256 calls; place 63 and crane 15
+Legs by their index: the number and the places; by their places: the number and the index.
+38 of all 2016 legs, how many are found by their index, how many by their places, how many stand in the table that is held, and in the one that is worked out
+39 1500, 2015, 2016 and 18446744073709551615
+40 15 and 55, 62 and 63, 3 and 3, 4 and 3, 0 and 64, 0 and 65535
+41 of the 4356 pairs of numbers below 66, how many are refused",
     );
 }
 
@@ -104,5 +110,7 @@ fn main() {
     legend();
     read(&file);
     memory(&file, &[10, 20, 15], &[10, 26, 15], &[10, 20]);
+    legs::each();
+    legs::some();
     line::text(b"\n");
 }

@@ -6,12 +6,13 @@ use mathlib.Core.Path.{_≡_, refl}
 use Rattle.base.specs.Decimal.{upToDigits, decimal}
 use Rattle.base.specs.Lists.{upTo, splice}
 use Rattle.base.specs.Tests.{within, allBelow}
-use Rattle.road.specs.Table.{legCount, metresOf, runRefusal}
+use Rattle.road.specs.Table.{legCount, inOrder, metresOf, runRefusal}
 use Rattle.dayfile.specs.Codec.{decode, records}
 use Rattle.dayfile.specs.Day.{countsRefusal, placedRefusal, dayRefusal}
 use Rattle.dayfile.specs.File.{dayOf, tested, readFile, outputOf}
 use Rattle.dayfile.specs.Legs.{tableOf}
 use Rattle.dayfile.specs.Scan.{afterLeg, after, lengthRefusal, bareRefusal, formRefusal, legRefusal, stopRefusal, craneRefusal, callRefusal, recordRefusal, endRefusal, scan}
+use Rattle.pairs.specs.Pairs.{pairAtOf, indexOf}
 use Rattle.workfunction.specs.Lists.{minimum, insertions, permutations, sumBelow, filter, leastBy, sections}
 use Rattle.workfunction.specs.Position.{positions, pairing, distance}
 use Rattle.workfunction.specs.Movement.{contains, movements, cost, work, floor}
@@ -31,5 +32,5 @@ use Rattle.report.specs.Report.{figuresText, sheetText, printOf, sheetPrintOf}
 use Rattle.edges.specs.Cases.{cases, sameBy, agrees, allAgree}
 
 pub cases-agree : allAgree cases ≡ true
-unfolding cases sameBy agrees allAgree upTo within allBelow legCount metresOf runRefusal decode records countsRefusal placedRefusal dayRefusal dayOf tested readFile tableOf afterLeg after lengthRefusal bareRefusal formRefusal legRefusal stopRefusal craneRefusal callRefusal recordRefusal endRefusal scan flatMap headD minimum insertions permutations sumBelow filter leastBy sections positions pairing distance contains movements cost work floor narrowed preferred drive moveSum choice netCost servedBy serve mayFollow follows followersRule onceRule planRule slackRule vouchAt vouchRule place legCost weightRule bookRefusal freshBook freshOf netsOf quoteOf tidied bookAfter commitOf costsOf servedDay upToDigits decimal callLine lastLine callLines dayText figuresText sheetText printOf sheetPrintOf splice outputOf aligned rowBytes valueOf readRow sheetRows
+unfolding cases sameBy agrees allAgree upTo within allBelow legCount inOrder metresOf runRefusal decode records countsRefusal placedRefusal dayRefusal dayOf tested readFile tableOf afterLeg after lengthRefusal bareRefusal formRefusal legRefusal stopRefusal craneRefusal callRefusal recordRefusal endRefusal scan flatMap headD minimum insertions permutations sumBelow filter leastBy sections positions pairing distance contains movements cost work floor narrowed preferred drive moveSum choice netCost servedBy serve mayFollow follows followersRule onceRule planRule slackRule vouchAt vouchRule place legCost weightRule bookRefusal freshBook freshOf netsOf quoteOf tidied bookAfter commitOf costsOf servedDay upToDigits decimal callLine lastLine callLines dayText figuresText sheetText printOf sheetPrintOf splice outputOf aligned rowBytes valueOf readRow sheetRows pairAtOf indexOf
 cases-agree = refl

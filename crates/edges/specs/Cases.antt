@@ -11,6 +11,7 @@ use Rattle.road.specs.Table.{Table, mostLegs, metresOf, tableRefusal}
 use Rattle.dayfile.specs.Day.{mostCranes, mostCalls, dayRefusal}
 use Rattle.dayfile.specs.declared.Day.{Day}
 use Rattle.dayfile.specs.File.{readFile, readTable, Output}
+use Rattle.pairs.specs.Pairs.{pairAtOf, indexOf}
 use Rattle.workfunction.specs.Choice.{moveSum}
 use Rattle.book.specs.Book.{mostStops, startsOf, standsOf, requestsOf, freshOf}
 use Rattle.book.specs.declared.Book.{Book}
@@ -58,6 +59,10 @@ pub data Case : Type 0 where
   row : ℕ → ℕ → ℕ → ℕ → ℕ → List ℕ → Case
   -- all bytes of a sheet: the five values of each row
   values : List ℕ → List ℕ → Case
+  -- the index of a leg: the number, and its two places
+  placesAt : ℕ → ℕ → ℕ → ℕ → Case
+  -- two places: the number, and the index of their leg
+  indexAt : ℕ → ℕ → ℕ → ℕ → Case
 
 -- so many places and these numbers
 abbrev roads : ℕ → List ℕ → Roads
@@ -256,6 +261,18 @@ cases =
     quoted short bookA 1 3 0 0 0 ∷
     quoted long bookA 1 3 0 0 0 ∷
     committed short bookA 1 1 3 0 (0 ∷ 2 ∷ []) (1 ∷ 0 ∷ []) (20 ∷ 0 ∷ []) ∷
+    -- paper 7: "Which pair is leg 1,500?"; "An index above 2,015, or a pair that isn't a leg .. gives 5", and zeros
+    placesAt 0 0 0 1 ∷
+    placesAt 1500 0 15 55 ∷
+    placesAt 2015 0 62 63 ∷
+    placesAt 2016 5 0 0 ∷
+    indexAt 0 1 0 0 ∷
+    indexAt 15 55 0 1500 ∷
+    indexAt 62 63 0 2015 ∷
+    indexAt 3 3 5 0 ∷
+    indexAt 4 3 5 0 ∷
+    indexAt 0 64 5 0 ∷
+    indexAt 0 65535 5 0 ∷
     -- legs and triangles as files: 1,000,000 is 64 + 66 · 256 + 15 · 65,536
     file (leg 0 1 10 0 0 0 ++ leg 0 2 25 0 0 0 ++ leg 1 2 15 0 0 0 ++ crane 0) 0 0 ∷
     file (leg 0 1 10 0 0 0 ++ leg 0 2 26 0 0 0 ++ leg 1 2 15 0 0 0 ++ crane 0) 8 0 ∷
@@ -329,6 +346,8 @@ agrees (posted bs out) = same (sheetPrintOf bs) out
 agrees (sheet t starts calls before n k out) = output n k out (sheetOf (dayOf t starts calls) (t .run) before)
 agrees (row i r s m w bs) = same (rowBytes (record { call = i; place = r; crane = s; metres = m; least = w })) bs
 agrees (values bs l) = same (flatMap five (readSheet bs)) l
+agrees (placesAt i n u v) = eqb (pairAtOf i .number) n && eqb (pairAtOf i .pair .first) u && eqb (pairAtOf i .pair .second) v
+agrees (indexAt u v n i) = eqb (indexOf u v .number) n && eqb (indexOf u v .index) i
 
 unfoldable pub allAgree : List Case → Bool
 allAgree [] = true
