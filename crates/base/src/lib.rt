@@ -13,7 +13,7 @@ pub enum Refusal {
     Order,
     // The metres of a leg.
     Metres,
-    // A place not below the number of places.
+    // A place not below the number of places; an index that no leg has, or a pair that is no leg.
     Place,
     // The number of cranes.
     Cranes,

@@ -1,6 +1,6 @@
 -- `pairs::index_of` meets its contract: a refusal is handed up with 0, else the legs before those to the second place are counted, and then
 -- the first place. Assumes nothing.
-use Prim.Native.Nat.{ℕ, _+_, _<_}
+use Prim.Native.Nat.{ℕ, _+_}
 use mathlib.Core.Path.{_≡_, ap, _∙_}
 use borrow.Author.Needs.{needs}
 use native.Mathlib.Nat.{le-of-lt}
@@ -8,7 +8,7 @@ use native.Mathlib.Omega.{arith}
 use Rattle.base.proofs.Numbers.{accepts, refused-number}
 use Rattle.road.specs.Table.{legCount}
 use Rattle.road.proofs.Order.{legs-counted, leg-count-most}
-use Rattle.pairs.specs.Pairs.{pairRefusal, IndexTold, indexOf}
+use Rattle.pairs.specs.Pairs.{pairRefusal}
 use Rattle.pairs.proofs.Pairs.{pair-leg, index-refused, index-accepted}
 use Rattle.pairs.proofs.index_of.Statement.{statement}
 use Rattle.pairs.proofs.index_of.Tie as tie

@@ -5,7 +5,6 @@ use mathlib.Core.Path.{_≡_, refl, _∙_}
 use borrow.Author.Needs.{needs}
 use lib.ListN.{length}
 use native.Mathlib.Nat.{le-of-lt}
-use native.Mathlib.Omega.{arith}
 use Rattle.base.specs.Lists.{upTo}
 use Rattle.base.proofs.Lists.{Spliced, splice-ended, entries-begun, entries-turned}
 use Rattle.road.specs.Table.{legCount}
