@@ -1,7 +1,7 @@
 // The pairs of places of legs: all legs one after another, beside their index, their pair and the two tables; then numbers that are no leg's
 // index, and pairs that are no leg.
 use crate::line;
-use pairs::Pair;
+use legorder::Pair;
 use road::Road;
 
 // The first number that is not looked at as a place.
@@ -137,7 +137,7 @@ pub(crate) fn each() {
     let held = pairs::held();
     let held_firsts = held.firsts;
     let held_seconds = held.seconds;
-    let worked = pairs::generate();
+    let worked = legorder::generate();
     let firsts = worked.firsts;
     let seconds = worked.seconds;
     line::begin(38);

@@ -12,7 +12,7 @@ use Rattle.dayfile.specs.Day.{countsRefusal, placedRefusal, dayRefusal}
 use Rattle.dayfile.specs.File.{dayOf, tested, readFile, outputOf}
 use Rattle.dayfile.specs.Legs.{tableOf}
 use Rattle.dayfile.specs.Scan.{afterLeg, after, lengthRefusal, bareRefusal, formRefusal, legRefusal, stopRefusal, craneRefusal, callRefusal, recordRefusal, endRefusal, scan}
-use Rattle.pairs.specs.Pairs.{pairAtOf, indexOf}
+use Rattle.pairs.specs.Lookup.{pairAtOf, indexOf}
 use Rattle.workfunction.specs.Lists.{minimum, insertions, permutations, sumBelow, filter, leastBy, sections}
 use Rattle.workfunction.specs.Position.{positions, pairing, distance}
 use Rattle.workfunction.specs.Movement.{contains, movements, cost, work, floor}

@@ -11,7 +11,7 @@ use Rattle.road.specs.Table.{Table, mostLegs, metresOf, tableRefusal}
 use Rattle.dayfile.specs.Day.{mostCranes, mostCalls, dayRefusal}
 use Rattle.dayfile.specs.declared.Day.{Day}
 use Rattle.dayfile.specs.File.{readFile, readTable, Output}
-use Rattle.pairs.specs.Pairs.{pairAtOf, indexOf}
+use Rattle.pairs.specs.Lookup.{pairAtOf, indexOf}
 use Rattle.workfunction.specs.Choice.{moveSum}
 use Rattle.book.specs.Book.{mostStops, startsOf, standsOf, requestsOf, freshOf}
 use Rattle.book.specs.declared.Book.{Book}

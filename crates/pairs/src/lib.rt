@@ -1,27 +1,22 @@
-// The pairs of places of all legs: a constant table in the order of the day file, what stands at an index of it and at which index a pair
-// stands; and the same table worked out, which is proved to be equal. Leg i is the same pair in every road table that has it. Stands on
-// `base` and `road`.
+// The pairs of places of all legs, held as a constant: what stands at an index, and at which index a pair stands. The constant is proved to be
+// what `legorder` works out. Stands on `base`, `road` and `legorder`; its theorems also on `dayfile`.
 //
-// The program `pairtable` prints the text of src/table.rt from `generate`. To make it anew, and to compare it with what is there:
+// src/table.rt is the text that the program `pairtable` prints. After a change of the order or of a limit it is made anew, and compared, by
 //
-//     target/bin/pairtable > crates/pairs/src/table.rt
-//     target/bin/pairtable | cmp - crates/pairs/src/table.rt
-mod fill;
+//     rt check pairtable; target/bin/pairtable | tee crates/pairtable/stdout > crates/pairs/src/table.rt
+//     cmp crates/pairtable/stdout crates/pairs/src/table.rt
 mod table;
 
 use base::Refusal;
 use base::Verdict;
+use legorder::Columns;
+use legorder::Pair;
 use road::Road;
 ghost use mathlib.Core.Path.{_≡_};
 ghost use Rattle.base.specs.Numbers.{numberOf};
 ghost use Rattle.road.specs.Table.{mostPlaces};
-ghost use Rattle.pairs.specs.Pairs.{pairs, columnsOf, indexRefusal, pairRefusal, pairFound, pairAtOf, indexFound, indexOf};
-
-// The two places of a leg.
-pub struct Pair {
-    pub first: u16,
-    pub second: u16,
-}
+ghost use Rattle.legorder.specs.Pairs.{pairs, columnsOf};
+ghost use Rattle.pairs.specs.Lookup.{indexRefusal, pairRefusal, pairFound, pairAtOf, indexFound, indexOf};
 
 // The pair at an index; or the refusal and zeros.
 pub struct PairFound {
@@ -33,12 +28,6 @@ pub struct PairFound {
 pub struct IndexFound {
     pub verdict: Verdict,
     pub index: usize,
-}
-
-// The pairs of all legs by their index, in two columns.
-pub struct Columns {
-    pub firsts: [u16; Road::LEGS],
-    pub seconds: [u16; Road::LEGS],
 }
 
 // 5 unless some leg has the index.
@@ -64,7 +53,7 @@ fn test_pair(first: u16, second: u16) -> Verdict
     Verdict::Refused(Refusal::Place)
 }
 
-// The table that the library holds, a constant.
+// The constant table.
 pub fn held() -> Columns
     ensures { λ r. ⌜ r ≡ columnsOf (pairs mostPlaces) ⌝ }
 {
@@ -72,20 +61,6 @@ pub fn held() -> Columns
         firsts: table::FIRSTS,
         seconds: table::SECONDS,
     }
-}
-
-// The same table, worked out: the legs to each place in turn.
-pub fn generate() -> Columns
-    ensures { λ r. ⌜ r ≡ columnsOf (pairs mostPlaces) ⌝ }
-{
-    let mut firsts = [0; Road::LEGS];
-    let mut seconds = [0; Road::LEGS];
-    let mut v = 0;
-    while v < Road::PLACES {
-        fill::legs_to(v, &mut firsts, &mut seconds);
-        v += 1;
-    }
-    Columns { firsts, seconds }
 }
 
 // The pair of the leg with an index.

@@ -1,5 +1,5 @@
-// Prints the source of the table that `pairs` holds, src/table.rt of that crate, from the pairs that it works out. A write that fails is told
-// on standard error. Stands on `pairs`, and on the toolchain's `io` and `libc` for writing.
+// Prints the source of the table that `pairs` holds, src/table.rt of that crate, from the pairs that `legorder` works out. A write that fails
+// is told on standard error. Stands on `legorder`, and on the toolchain's `io` and `libc` for writing.
 use libc::STDERR_FILENO;
 use libc::STDOUT_FILENO;
 
@@ -31,7 +31,7 @@ fn constant(heading: &[u8], places: &[u16]) -> bool {
 }
 
 fn main() {
-    let columns = pairs::generate();
+    let columns = legorder::generate();
     let firsts = columns.firsts;
     let seconds = columns.seconds;
     let first = constant(

@@ -6,10 +6,11 @@ use borrow.Author.Needs.{needs}
 use lib.ListN.{getD, List·getD-map}
 use Rattle.base.proofs.Numbers.{accepts, refused-number}
 use Rattle.road.specs.Table.{mostPlaces, mostLegs}
-use Rattle.pairs.specs.declared.Columns.{Columns}
-use Rattle.pairs.specs.declared.Pair.{Pair}
-use Rattle.pairs.specs.Pairs.{legPair, pairs, columnsOf, indexRefusal}
-use Rattle.pairs.proofs.Pairs.{index-below, pair-refused, pair-accepted}
+use Rattle.legorder.specs.declared.Columns.{Columns}
+use Rattle.legorder.specs.declared.Pair.{Pair}
+use Rattle.legorder.specs.Pairs.{legPair, pairs, columnsOf}
+use Rattle.pairs.specs.Lookup.{indexRefusal}
+use Rattle.pairs.proofs.Lookup.{index-below, pair-refused, pair-accepted}
 use Rattle.pairs.proofs.pair_at.Statement.{statement}
 use Rattle.pairs.proofs.pair_at.Tie as tie
 

@@ -1,4 +1,4 @@
--- `pairs::fill::legs_to` meets its contract: the loop writes the places of the legs to v one behind another.
+-- `legorder::fill::legs_to` meets its contract: the loop writes the places of the legs to v one behind another.
 -- Assumes nothing.
 use Prim.Native.Nat.{ℕ, _+_, _-_, _≤_}
 use mathlib.Core.Path.{_≡_, refl, _∙_}
@@ -9,8 +9,8 @@ use Rattle.base.specs.Lists.{upTo}
 use Rattle.base.proofs.Lists.{Spliced, splice-ended, entries-begun, entries-turned}
 use Rattle.road.specs.Table.{legCount}
 use Rattle.road.proofs.Order.{legs-counted}
-use Rattle.pairs.proofs.fill.legs_to.Statement.{statement}
-use Rattle.pairs.proofs.fill.legs_to.Tie as tie
+use Rattle.legorder.proofs.fill.legs_to.Statement.{statement}
+use Rattle.legorder.proofs.fill.legs_to.Tie as tie
 
 abbrev Inv-loop : tie.InvT-loop
 Inv-loop v firsts₀ seconds₀ from u₀ firsts seconds u =

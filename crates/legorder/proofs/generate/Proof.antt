@@ -1,4 +1,4 @@
--- `pairs::generate` meets its contract: once the legs to the places below v are written, the columns begin with them.
+-- `legorder::generate` meets its contract: once the legs to the places below v are written, the columns begin with them.
 -- Assumes nothing.
 use Prim.Native.Nat.{ℕ, _+_, _-_, _<_, _≤_, zero-le}
 use mathlib.Core.List.{List, _++_, append-assoc}
@@ -12,11 +12,11 @@ use Rattle.base.specs.Lists.{upTo, splice}
 use Rattle.base.proofs.Lists.{length-upTo, length-splice}
 use Rattle.road.specs.Table.{mostPlaces, mostLegs, legCount, inOrder}
 use Rattle.road.proofs.Order.{no-legs, all-legs, legs-before, leg-count-more, in-order-more, map-in-order}
-use Rattle.pairs.specs.declared.Columns.{Columns}
-use Rattle.pairs.specs.declared.Pair.{Pair}
-use Rattle.pairs.specs.Pairs.{legPair, pairs, columnsOf}
-use Rattle.pairs.proofs.generate.Statement.{statement}
-use Rattle.pairs.proofs.generate.Tie as tie
+use Rattle.legorder.specs.declared.Columns.{Columns}
+use Rattle.legorder.specs.declared.Pair.{Pair}
+use Rattle.legorder.specs.Pairs.{legPair, pairs, columnsOf}
+use Rattle.legorder.proofs.generate.Statement.{statement}
+use Rattle.legorder.proofs.generate.Tie as tie
 
 -- a column that begins with what f has for each leg to the places below v
 record Begins (f : ℕ → ℕ → ℕ) (now : List ℕ) (v : ℕ) : Type 0 where

@@ -10,8 +10,9 @@ use native.Mathlib.Omega.{arith}
 use Rattle.base.proofs.Numbers.{unless-zero, accepted-values, zeros-told}
 use Rattle.road.specs.Table.{mostPlaces, mostLegs, legIndex}
 use Rattle.road.proofs.Order.{all-legs, legs-before, in-order-at}
-use Rattle.pairs.specs.declared.Pair.{Pair}
-use Rattle.pairs.specs.Pairs.{legPair, pairs, indexRefusal, pairRefusal, PairTold, pairAtOf, IndexTold, indexOf}
+use Rattle.legorder.specs.declared.Pair.{Pair}
+use Rattle.legorder.specs.Pairs.{legPair, pairs}
+use Rattle.pairs.specs.Lookup.{indexRefusal, pairRefusal, PairTold, pairAtOf, IndexTold, indexOf}
 
 module _ (i : ℕ) where
   -- an accepted index is below the most legs

@@ -1,28 +1,15 @@
--- The pairs of places of the legs in order, and what is found by an index and by a pair, for every input.
+-- What is found by the index of a leg and by its pair of places, for every input.
 use Prim.Native.Nat.{ℕ, _<_}
 use mathlib.Core.Bool.{_&&_}
-use mathlib.Core.List.{List, map}
 use mathlib.Core.Path.{_≡_}
 use lib.Dec.{ltb}
 use lib.ListN.{getD}
 use Rattle.base.specs.Numbers.{unless, unlessRefused, numberOf}
-use Rattle.road.specs.Table.{Table, mostPlaces, mostLegs, inOrder, legIndex, metresOf}
-use Rattle.pairs.specs.declared.Columns.{Columns}
+use Rattle.road.specs.Table.{Table, mostPlaces, mostLegs, legIndex, metresOf}
+use Rattle.legorder.specs.declared.Pair.{Pair}
+use Rattle.legorder.specs.Pairs.{legPair, pairs}
 use Rattle.pairs.specs.declared.IndexFound.{IndexFound}
-use Rattle.pairs.specs.declared.Pair.{Pair}
 use Rattle.pairs.specs.declared.PairFound.{PairFound}
-
--- the two places of the leg (u,v)
-abbrev pub legPair : ℕ → ℕ → Pair
-legPair u v = record { first = u; second = v }
-
--- paper 7: "the two places of each leg in file order", of the legs between the places below n
-abbrev pub pairs : ℕ → List Pair
-pairs n = inOrder legPair n
-
--- a list of pairs as two columns
-abbrev pub columnsOf : List Pair → Columns
-columnsOf l = record { firsts = map (λ (p : Pair). p .first) l; seconds = map (λ (p : Pair). p .second) l }
 
 -- paper 7: "An index above 2,015 .. gives 5"
 abbrev pub indexRefusal : ℕ → ℕ
