@@ -1,5 +1,5 @@
 // The pairs of places of all legs in the order of the day file, worked out. Leg i is the same pair in every road table that has it. Stands on
-// `road`.
+// `base` and `road`.
 mod fill;
 
 use road::Road;
