@@ -19,7 +19,7 @@ use Rattle.dayfile.proofs.Limits.{day-tested}
 use Rattle.dayfile.proofs.RoundTrip.{file-accepted, file-records}
 use Rattle.legorder.specs.Pairs.{legPair, pairs}
 use Rattle.pairs.specs.Lookup.{PairTold, pairAtOf, indexOf, Agrees}
-use Rattle.pairs.proofs.Lookup.{index-below, pair-number, pair-leg, index-number, leg-told, leg-index}
+use Rattle.pairs.proofs.lookup.Laws.{index-below, pair-number, pair-leg, index-number, leg-told, leg-index}
 
 -- the index that is told of a pair is told this pair
 pub pair-back : (u v : ℕ) → indexOf u v .number ≡ 0 → pairAtOf (indexOf u v .index) ≡ record { number = 0; pair = legPair u v }

@@ -5,18 +5,17 @@
 //
 //     rt check pairtable; target/bin/pairtable | tee crates/pairtable/stdout > crates/pairs/src/table.rt
 //     cmp crates/pairtable/stdout crates/pairs/src/table.rt
+mod lookup;
 mod table;
 
-use base::Refusal;
 use base::Verdict;
 use legorder::Columns;
 use legorder::Pair;
 use road::Road;
 ghost use mathlib.Core.Path.{_≡_};
-ghost use Rattle.base.specs.Numbers.{numberOf};
 ghost use Rattle.road.specs.Table.{mostPlaces};
 ghost use Rattle.legorder.specs.Pairs.{pairs, columnsOf};
-ghost use Rattle.pairs.specs.Lookup.{indexRefusal, pairRefusal, pairFound, pairAtOf, indexFound, indexOf};
+ghost use Rattle.pairs.specs.Lookup.{pairFound, pairAtOf, indexFound, indexOf};
 
 // The pair at an index; or the refusal and zeros.
 pub struct PairFound {
@@ -28,29 +27,6 @@ pub struct PairFound {
 pub struct IndexFound {
     pub verdict: Verdict,
     pub index: usize,
-}
-
-// 5 unless some leg has the index.
-fn test_index(index: usize) -> Verdict
-    ensures { λ r. ⌜ numberOf r ≡ indexRefusal index ⌝ }
-{
-    if index < Road::LEGS {
-        return Verdict::Accepted;
-    }
-    Verdict::Refused(Refusal::Place)
-}
-
-// 5 unless the pair is a leg: the first place below the second, and that a place of some table.
-fn test_pair(first: u16, second: u16) -> Verdict
-    ensures { λ r. ⌜ numberOf r ≡ pairRefusal first second ⌝ }
-{
-    if second <= first {
-        return Verdict::Refused(Refusal::Place);
-    }
-    if (second as usize) < Road::PLACES {
-        return Verdict::Accepted;
-    }
-    Verdict::Refused(Refusal::Place)
 }
 
 // The constant table.
@@ -67,7 +43,7 @@ pub fn held() -> Columns
 pub fn pair_at(index: usize) -> PairFound
     ensures { λ r. ⌜ pairFound r ≡ pairAtOf index ⌝ }
 {
-    let tested = test_index(index);
+    let tested = lookup::test_index(index);
     let Verdict::Accepted = tested else {
         return PairFound {
             verdict: tested,
@@ -90,7 +66,7 @@ pub fn pair_at(index: usize) -> PairFound
 pub fn index_of(first: u16, second: u16) -> IndexFound
     ensures { λ r. ⌜ indexFound r ≡ indexOf first second ⌝ }
 {
-    let tested = test_pair(first, second);
+    let tested = lookup::test_pair(first, second);
     let Verdict::Accepted = tested else {
         return IndexFound {
             verdict: tested,

@@ -9,7 +9,7 @@ use Rattle.base.proofs.Numbers.{accepts, refused-number}
 use Rattle.road.specs.Table.{legCount}
 use Rattle.road.proofs.Order.{legs-counted, leg-count-most}
 use Rattle.pairs.specs.Lookup.{pairRefusal}
-use Rattle.pairs.proofs.Lookup.{pair-leg, index-refused, index-accepted}
+use Rattle.pairs.proofs.lookup.Laws.{pair-leg, index-refused, index-accepted}
 use Rattle.pairs.proofs.index_of.Statement.{statement}
 use Rattle.pairs.proofs.index_of.Tie as tie
 

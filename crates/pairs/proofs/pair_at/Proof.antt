@@ -10,7 +10,7 @@ use Rattle.legorder.specs.declared.Columns.{Columns}
 use Rattle.legorder.specs.declared.Pair.{Pair}
 use Rattle.legorder.specs.Pairs.{legPair, pairs, columnsOf}
 use Rattle.pairs.specs.Lookup.{indexRefusal}
-use Rattle.pairs.proofs.Lookup.{index-below, pair-refused, pair-accepted}
+use Rattle.pairs.proofs.lookup.Laws.{index-below, pair-refused, pair-accepted}
 use Rattle.pairs.proofs.pair_at.Statement.{statement}
 use Rattle.pairs.proofs.pair_at.Tie as tie
 

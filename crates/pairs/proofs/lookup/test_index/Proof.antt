@@ -1,10 +1,10 @@
--- `pairs::test_index` meets its contract: the branch tells on which side of the most legs the index lies.
+-- `pairs::lookup::test_index` meets its contract: the branch tells on which side of the most legs the index lies.
 -- Assumes nothing.
 use borrow.Author.Tests.{lt-ltb, le-ltb}
 use native.Mathlib.Omega.{arith}
 use Rattle.road.specs.Table.{mostLegs}
-use Rattle.pairs.proofs.test_index.Statement.{statement}
-use Rattle.pairs.proofs.test_index.Tie as tie
+use Rattle.pairs.proofs.lookup.test_index.Statement.{statement}
+use Rattle.pairs.proofs.lookup.test_index.Tie as tie
 
 returns : tie.Need-returns
 returns c = rw (lt-ltb (c .before .args .index) mostLegs (omega (arith, c .if1 .taken)))

@@ -1,10 +1,10 @@
--- `pairs::test_pair` meets its contract: the branches tell the order of the two places, and on which side of the most places the second lies.
+-- `pairs::lookup::test_pair` meets its contract: the branches tell the order of the two places, and on which side of the most places the second lies.
 -- Assumes nothing.
 use borrow.Author.Tests.{lt-ltb, le-ltb}
 use native.Mathlib.Omega.{arith}
 use Rattle.road.specs.Table.{mostPlaces}
-use Rattle.pairs.proofs.test_pair.Statement.{statement}
-use Rattle.pairs.proofs.test_pair.Tie as tie
+use Rattle.pairs.proofs.lookup.test_pair.Statement.{statement}
+use Rattle.pairs.proofs.lookup.test_pair.Tie as tie
 
 returns : tie.Need-returns
 returns c =
