@@ -22,11 +22,11 @@ module _ {A : Type 0} where
   getD-upTo (suc n) f zero z h = refl
   getD-upTo (suc n) f (suc i) z h = getD-upTo n (λ j. f (suc j)) i z (le-of-suc-le-suc h)
 
-  -- rules that agree below n give the same list
   -- the entries behind a list whose length is known
   pub getD-behind : (p q : List A) (n i : ℕ) (z : A) → length p ≡ n → getD (p ++ q) (n + i) z ≡ getD q i z
   getD-behind p q n i z e = rw (← e) (getD-append-add p q i z)
 
+  -- rules that agree below n give the same list
   pub upTo-same : (n : ℕ) (f g : ℕ → A) → ((i : ℕ) → i < n → f i ≡ g i) → upTo n f ≡ upTo n g
   unfolding upTo
   upTo-same zero f g same = refl

@@ -1,9 +1,13 @@
 // The pairs of places of all legs, held as a constant: what stands at an index, and at which index a pair stands. The constant is proved to be
 // what `legorder` works out. Stands on `base`, `road` and `legorder`; its theorems also on `dayfile`.
 //
-// src/table.rt is the text that the program `pairtable` prints. After a change of the order or of a limit it is made anew, and compared, by
+// src/table.rt is the text that the program `pairtable` prints. After a change of the order or of the most places it is made anew by
 //
-//     rt check pairtable; target/bin/pairtable | tee crates/pairtable/stdout > crates/pairs/src/table.rt
+//     rm -f target/bin/pairtable; rt check pairtable
+//     target/bin/pairtable > crates/pairtable/stdout && cp crates/pairtable/stdout crates/pairs/src/table.rt
+//
+// where the check tells that the print is not the stored one. The two files are compared by
+//
 //     cmp crates/pairtable/stdout crates/pairs/src/table.rt
 mod lookup;
 mod table;

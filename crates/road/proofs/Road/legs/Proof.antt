@@ -14,7 +14,7 @@ use Rattle.road.proofs.Road.legs.Statement.{statement}
 use Rattle.road.proofs.Road.legs.Tie as tie
 
 product : (n m : ℕ) → n ≤ mostPlaces → m ≤ mostPlaces → Fits w64 (n * m)
-product n m h l = let most : n * m ≤ 4096 = mul-le-mul h l in record { fits = omega arith }
+product n m h l = let most : n * m ≤ mostPlaces * mostPlaces = mul-le-mul h l in record { fits = omega arith }
 
 returns : tie.Need-returns
 unfolding legCount
