@@ -57,9 +57,13 @@ module _ {A : Type 0} where
   take-upTo n l z h =
       part-upTo n l 0 z (rw zero-add h) ∙ upTo-same n _ _ (λ j lt. rw zero-add)
 
+  -- the entries of a list that begins by a rule
+  pub getD-front : (n : ℕ) (f : ℕ → A) (rest : List A) (y : A) (i : ℕ) → i < n → getD (upTo n f ++ rest) i y ≡ f i
+  getD-front n f rest y i h = List·getD-append (upTo n f) rest y i (rw length-upTo h) ∙ getD-upTo n f i y h
+
   -- the entries of an array within its count
   pub getD-padded : (m n : ℕ) (f : ℕ → A) (z y : A) (i : ℕ) → i < n → getD (padded m n f z) i y ≡ f i
-  getD-padded m n f z y i h = List·getD-append (upTo n f) _ y i (rw length-upTo h) ∙ getD-upTo n f i y h
+  getD-padded m n f z y i h = getD-front n f _ y i h
 
   pub take-padded : (m n : ℕ) (f : ℕ → A) (z : A) → take n (padded m n f z) ≡ upTo n f
   take-padded m n f z = take-at (upTo n f) _ n (length-upTo n f)
@@ -145,6 +149,14 @@ module _ {A : Type 0} (f : ℕ → A) where
   -- the entries filled so far
   pub filled-at : {old : List A} {n : ℕ} {now : List A} {i : ℕ} → Filled f old n now i → (z : A) (v : ℕ) → v < i → getD now v z ≡ f v
   filled-at {old} {i = i} p z v lt = rw (p .same, List·getD-append (upTo i f) (drop i old) z v (rw length-upTo lt)) (getD-upTo i f v z lt)
+
+  -- and those still to be filled
+  pub filled-ahead : {old : List A} {n : ℕ} {now : List A} {i : ℕ} → Filled f old n now i → (z : A) (v : ℕ) → i ≤ v → getD now v z ≡ getD old v z
+  filled-ahead {old} {i = i} p z v le =
+      let e : v ≡ length (upTo i f) + (v - i) = omega (arith, length-upTo i f) in
+      let g : i + (v - i) ≡ v = omega arith in
+      rw (p .same) (ap (λ (k : ℕ). getD (upTo i f ++ drop i old) k z) e ∙ getD-append-add (upTo i f) (drop i old) (v - i) z ∙ getD-drop i old (v - i) z
+      ∙ ap (λ (k : ℕ). getD old k z) g)
 
   -- an array of m entries, all z at first
   pub fill-padded : (m n : ℕ) (z : A) (now : List A) (i : ℕ) → Filled f (replicate m z) n now i → n ≤ i → now ≡ padded m n f z

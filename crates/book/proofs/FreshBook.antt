@@ -45,18 +45,18 @@ module _ (k : ℕ) (f : ℕ → ℕ) (own : (p : ℕ) → p < k → f p ≡ p) w
   own-once = below-all _ k (λ b h. eq-eqb _ 1
       (sum-same k _ (λ p. cond (eqb b p) 1 0) (λ p l. rw (own p l, eqb-both-ways p b)) ∙ sum-one k b (λ p. 1) h))
 
-  own-plan : planRule k k f ≡ true
+  pub own-plan : planRule k k f ≡ true
   unfolding planRule
   own-plan = rw own-followers own-once
 
 -- weights that are all 0
 module _ (k : ℕ) (y : ℕ → ℤ) (none : (b : ℕ) → b < k → y b ≡ pos 0) where
-  none-ranged : rangeRule k y ≡ true
+  pub none-ranged : rangeRule k y ≡ true
   unfolding weightRule
   none-ranged = below-all _ k (λ b h. rw (none b h))
 
   -- the way to its own follower costs a stop nothing
-  none-vouch : (f : ℕ → ℕ) (c : ℕ → ℕ → ℕ) → ((p : ℕ) → p < k → f p ≡ p) → ((p : ℕ) → p < k → c p p ≡ 0) → vouchRule k k f c y ≡ true
+  pub none-vouch : (f : ℕ → ℕ) (c : ℕ → ℕ → ℕ) → ((p : ℕ) → p < k → f p ≡ p) → ((p : ℕ) → p < k → c p p ≡ 0) → vouchRule k k f c y ≡ true
   unfolding vouchRule vouchAt slackRule mayFollow
   none-vouch f c own self =
       below-all _ k (λ p h. below-all _ k (λ b l. rw (lt-ltb b k l, own p h, none p h, none b l, self p h) (le-leb 0 (c p b + 0) zero-le)))
@@ -66,17 +66,17 @@ module _ (k : ℕ) where
   own : (p : ℕ) → p < k → follower (padded mostStops k (λ j. j) 0) p ≡ p
   own = getD-padded mostStops k (λ j. j) 0 0
 
-  pub fresh-plan : planRule k k (follower (padded mostStops k (λ j. j) 0)) ≡ true
+  fresh-plan : planRule k k (follower (padded mostStops k (λ j. j) 0)) ≡ true
   fresh-plan = own-plan k _ own
 
   module _ (most : k ≤ mostStops) where
     none : (b : ℕ) → b < k → weight (replicate mostStops (pos 0)) b ≡ pos 0
     none b lt = getD-replicate mostStops b (pos 0) (pos 0) (omega arith)
 
-    pub fresh-range : rangeRule k (weight (replicate mostStops (pos 0))) ≡ true
+    fresh-range : rangeRule k (weight (replicate mostStops (pos 0))) ≡ true
     fresh-range = none-ranged k _ none
 
-    pub fresh-vouch : (c : ℕ → ℕ → ℕ) → ((p : ℕ) → p < k → c p p ≡ 0)
+    fresh-vouch : (c : ℕ → ℕ → ℕ) → ((p : ℕ) → p < k → c p p ≡ 0)
         → vouchRule k k (follower (padded mostStops k (λ j. j) 0)) c (weight (replicate mostStops (pos 0))) ≡ true
     fresh-vouch c self = none-vouch k _ none _ c own self
 

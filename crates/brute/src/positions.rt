@@ -105,7 +105,7 @@ fn paired(square: &Square, cranes: usize, a: Position, b: Position, pairing: u32
 }
 
 // The distance of two positions: the least over all pairings.
-fn distance(square: &Square, size: Size, a: Position, b: Position) -> u64 {
+pub(crate) fn distance(square: &Square, size: Size, a: Position, b: Position) -> u64 {
     let mut least = FAR;
     for i in 0..size.pairings {
         least = lesser(least, paired(square, size.cranes, a, b, PAIRINGS[i % 24]));
@@ -200,17 +200,6 @@ pub(crate) fn serve(square: &Square, size: Size, reached: &Reached, place: u16) 
         }
     }
     next
-}
-
-// The floor: the least of the work function over all ends.
-pub(crate) fn floor(square: &Square, size: Size, reached: &Reached) -> u64 {
-    let mut least = FAR;
-    for code in 0..size.codes {
-        if listed(size.places, code) {
-            least = work_below(square, size, reached, position(code), least);
-        }
-    }
-    least
 }
 
 // The crane that is sent: its number, its way and the work function after its move, the sum of the two, and whether another crane

@@ -28,10 +28,11 @@ const CALLS: usize = 6;
 // A crane is fewer numbers than this behind the quoted one: whole rounds of 1, 2, 3 and 4 cranes.
 const ROUND: u64 = 12;
 
-// What the brute search keeps of a day: the costs of the positions reached and their floor, the cranes' stands and the sum of the drives, of
-// each crane and of all.
+// What the brute search keeps of a day: the costs of the positions reached, the cranes' starts and stands, the sum of the drives, of each
+// crane and of all, and the floor.
 pub struct Desk {
     pub reached: Reached,
+    pub starts: Position,
     pub stands: Position,
     pub drives: Drives,
     pub driven: u64,
@@ -72,8 +73,9 @@ pub(crate) fn agreed(square: &Square, run: &[u32], size: Size, sides: Sides) -> 
     let verdict = costs.verdict;
     let mut desk = sides.desk;
     let reached = desk.reached;
+    let starts = desk.starts;
     let stands = desk.stands;
-    let floor = positions::floor(square, size, &reached);
+    let floor = positions::work_at(square, size, &reached, starts);
     let least = positions::work_at(square, size, &reached, stands);
     let same = (base::number(verdict) == 0) & (costs.least == least) & (costs.floor == floor);
     desk.floor = floor;
@@ -94,6 +96,7 @@ fn begin(square: &Square, run: &[u32], size: Size, book: Book) -> Sides {
     let drives = [0; Day::CRANES];
     let desk = Desk {
         reached: positions::begin(size.cranes, starts),
+        starts,
         stands: starts,
         drives,
         driven: 0,
@@ -152,10 +155,12 @@ fn picked(cranes: usize, quoted: usize, behind: u64) -> usize {
 
 // The desk after a crane has gone to a call, with the positions reached then.
 fn gone(before: Desk, reached: Reached, sent: Sent, place: u16) -> Desk {
+    let starts = before.starts;
     let stands = before.stands;
     let drives = before.drives;
     Desk {
         reached,
+        starts,
         stands: positions::with(stands, sent.crane, place),
         drives: drives::add(drives, sent.crane, sent.metres),
         driven: std::num::wrapping_add_u64(before.driven, sent.metres),
@@ -283,6 +288,15 @@ fn lines(day: Day, sents: [Sent; CALLS], served: ServedDay, posted: Posted) -> b
     same
 }
 
+// Whether the served day tells the search's sums: the drives, the distance of the last stands from the starts, the floor.
+fn sums(day: Day, square: &Square, told: ServedDay, desk: Desk) -> bool {
+    let size = positions::size_of(day.places, day.cranes);
+    let starts = desk.starts;
+    let stands = desk.stands;
+    let home = positions::distance(square, size, stands, starts);
+    (told.driven == desk.driven) & (told.home == home) & (told.floor == desk.floor)
+}
+
 // A small day by the quoted cranes, beside the served day and the sheet.
 fn quoted(day: Day, square: &Square, run: &[u32]) -> Sides {
     let followed = follow(day, square, run, small::counted(0));
@@ -291,8 +305,7 @@ fn quoted(day: Day, square: &Square, run: &[u32]) -> Sides {
     let told = served(day, run);
     let posted = sheets::write(day, run);
     let rows = lines(day, sents, told, posted) & sheets::ends(posted, day.calls);
-    let sums = (told.driven == sides.desk.driven) & (told.floor == sides.desk.floor);
-    sides.agree = sides.agree & rows & sums;
+    sides.agree = sides.agree & rows & sums(day, square, told, sides.desk);
     sides
 }
 

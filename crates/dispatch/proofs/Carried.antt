@@ -48,7 +48,7 @@ module _ {book : Book} {n : ℕ} {t : Table} (arrays : BookArrays book) (s : Sou
   pub sound-table : {costs : List ℕ} → LegTable mostPlaces (entry (metresOf t)) (startsOf book) (requestsOf book) (standsOf book) costs
       → LegTable n (metresOf t) (startsOf book) (requestsOf book) (standsOf book) costs
   sound-table table =
-      table-over table (s .counts .places) (λ p x h l. sound-roads s .reads _ x (stop-placed (sound-asked arrays s .day) p h) l)
+      table-over table (s .counts .places) (λ p x h l. sound-roads s .legible .reads _ x (stop-placed (sound-asked arrays s .day) p h) l)
 
   -- a sound book with the table of what is read off its roads
   pub sound-kept : {costs : List ℕ} → mostStops ≤ length (book .plan) → mostStops ≤ length (book .weights)
@@ -135,7 +135,7 @@ module _ {book : Book} {n : ℕ} {t : Table} (arrays : BookArrays book) (s : Sou
 
   drive-short : told .metres ≤ mostMetres
   unfolding drive
-  drive-short = rw drive-is (sound-roads s .short _ r (stop-below n (standsOf book) (s .stands) (told .crane) (answered .crane)) on)
+  drive-short = rw drive-is (sound-roads s .legible .short _ r (stop-below n (standsOf book) (s .stands) (told .crane) (answered .crane)) on)
 
   -- every crane's metres have room for the drive, where the entries past the cranes are 0
   pub driven-room : ((j : ℕ) → book .cranes ≤ j → getD (book .driven) j 0 ≡ 0) → (j : ℕ)

@@ -1,36 +1,41 @@
 -- A day served call by call: what holds after each call, what the calls give together, and the fresh book with which it begins.
 -- Assumes nothing.
-use Prim.Native.Nat.{ℕ, _+_, _<_, _≤_}
+use Prim.Native.Nat.{ℕ, _+_, _<_, _≤_, zero-le}
 use mathlib.Core.List.{List, [], _∷_, _++_}
 use mathlib.Core.Path.{_≡_, refl, sym, ap, _∙_}
 use lib.IntN.{ℤ, pos}
-use lib.ListN.{length, getD, set, take, drop, replicate, length-replicate}
-use lib.Seq.{drop-cons, take-suc, drop-drop, getD-drop}
+use lib.ListN.{length, getD, set, take, drop, replicate, length-append, length-replicate}
+use lib.Seq.{take-all, take-at, drop-cons, take-suc, drop-drop, getD-drop}
 use native.Mathlib.Nat.{add-zero, le-antisymm}
 use native.Mathlib.Numerals.{add-one}
 use native.Mathlib.Omega.{arith}
 use Rattle.base.proofs.Lists.{length-padded, take-kept, drop-replicate, Filled, fill-begun, fill-turned, fill-ended}
 use Rattle.road.specs.Table.{Table, mostPlaces, metresOf, entry}
+use Rattle.road.proofs.Surveyed.{surveyed-metric}
 use Rattle.dayfile.specs.declared.Day.{Day}
 use Rattle.dayfile.specs.Day.{mostCranes, mostCalls, dayStarts, dayRequests, DayArrays, dayRefusal}
 use Rattle.dayfile.proofs.Limits.{Tested, day-tested, stop-below, enough-starts, enough-requests, length-requests}
 use Rattle.workfunction.specs.Choice.{moved, choice}
 use Rattle.workfunction.specs.Lists.{sumBelow}
-use Rattle.workfunction.specs.Movement.{floor}
-use Rattle.workfunction.specs.Serving.{Served, servedBy, served, serve}
+use Rattle.workfunction.specs.Plan.{stops, legCost, leastPlan}
+use Rattle.workfunction.specs.Position.{Position}
+use Rattle.workfunction.specs.Serving.{Served, servedBy, served, serve, standsAfter}
+use Rattle.workfunction.proofs.Movement.{work-none}
+use Rattle.workfunction.proofs.Serving.{stands-then}
 use Rattle.workfunction.proofs.Sums.{sum-last}
 use Rattle.book.specs.declared.Book.{Book}
 use Rattle.book.specs.Book.{mostStops, startsOf, standsOf, requestsOf, BookArrays, freshBook}
 use Rattle.dispatch.specs.declared.insert.Pick.{Pick}
 use Rattle.dispatch.specs.declared.insert.Pick.the-variants.{Least}
-use Rattle.dispatch.specs.Insertion.{Asked, Kept, Answered, DayAnswered}
-use Rattle.dispatch.specs.Legs.{LegTable}
+use Rattle.dispatch.specs.Insertion.{Asked, Kept, Answered, EndsGiven, HomeGiven, DayDone}
+use Rattle.dispatch.specs.Legs.{planRoom, LegTable}
 use Rattle.dispatch.specs.Quote.{unserved}
-use Rattle.dispatch.specs.ServedDay.{nth, DayFigures, servedDay}
-use Rattle.dispatch.proofs.Carried.{sound-kept}
+use Rattle.dispatch.specs.ServedDay.{nth, DayFigures, homeOf, servedDay}
+use Rattle.dispatch.proofs.Carried.{sound-table}
 use Rattle.book.proofs.FreshBook.{fresh-sound}
-use Rattle.book.proofs.Sound.{Fits, placed, Sound, book-sound, sound-fits}
-use Rattle.dispatch.proofs.Roads.{sound-asked}
+use Rattle.book.proofs.Sound.{Fits, starts-long, placed, Sound, book-sound, sound-fits}
+use Rattle.dispatch.proofs.Roads.{sound-roads, sound-asked}
+use Rattle.dispatch.proofs.ends.Laws.{Own, own-kept, stood-day, read-legible, kept-movable, ends-work, ends-floor}
 
 -- ---- call by call
 
@@ -43,6 +48,7 @@ module _ (n : ℕ) (d : ℕ → ℕ → ℕ) (starts requests stands₀ cranes�
   pub record Running (stands plan : List ℕ) (weights : List ℤ) (costs cranes metres leasts : List ℕ) (driven i : ℕ) : Type 0 where
     pub kept : Kept n d starts (take i requests) stands plan weights costs
     pub ahead : drop i whole ≡ serve d n starts (take i requests) stands (drop i requests)
+    pub stood : stands ≡ standsAfter d n starts [] stands₀ (take i requests)
     pub sent : Filled (λ j. nth whole j .crane) cranes₀ (length requests) cranes i
     pub drives : Filled (λ j. nth whole j .metres) metres₀ (length requests) metres i
     pub works : Filled (λ j. nth whole j .least) leasts₀ (length requests) leasts i
@@ -50,10 +56,11 @@ module _ (n : ℕ) (d : ℕ → ℕ → ℕ) (starts requests stands₀ cranes�
 
   pub run-begun : {plan : List ℕ} {weights : List ℤ} {costs : List ℕ} → Kept n d starts [] stands₀ plan weights costs
       → Running stands₀ plan weights costs cranes₀ metres₀ leasts₀ 0 0
-  unfolding sumBelow
+  unfolding sumBelow standsAfter
   run-begun k = record {
     kept = k;
     ahead = refl;
+    stood = refl;
     sent = fill-begun _ _ _;
     drives = fill-begun _ _ _;
     works = fill-begun _ _ _;
@@ -89,19 +96,27 @@ module _ (n : ℕ) (d : ℕ → ℕ → ℕ) (starts requests stands₀ cranes�
           record {
             kept = rw on (answer .kept);
             ahead = sym (drop-drop 1 i whole) ∙ ap (λ (l : List Served). drop 1 l) left ∙ rw (on, answer .there, answer .chosen);
+            stood = answer .there ∙ rw (answer .chosen, on, run .stood) (sym (stands-then d n starts [] stands₀ calls r));
             sent = fill-turned _ _ _ _ _ _ long (run .sent) lt (ap (λ (s : Served). s .crane) same);
             drives = fill-turned _ _ _ _ _ _ long' (run .drives) lt (ap (λ (s : Served). s .metres) same);
             works = fill-turned _ _ _ _ _ _ long'' (run .works) lt (ap (λ (s : Served). s .least) same);
             sum = rw (run .sum, ap (λ (s : Served). s .metres) same) (sym (sum-last i _));
           }
 
-    pub run-ended : length requests ≤ i → DayAnswered (length requests) whole cranes₀ metres₀ leasts₀ cranes metres leasts driven
-    run-ended le = record {
-      sent = fill-ended _ _ _ _ _ (run .sent) le;
-      drives = fill-ended _ _ _ _ _ (run .drives) le;
-      costs = fill-ended _ _ _ _ _ (run .works) le;
-      sum = rw (le-antisymm le (run .sent .most)) (run .sum);
-    }
+    pub run-ended : length requests ≤ i
+        → DayDone n d starts requests stands₀ cranes₀ metres₀ leasts₀ stands plan weights costs cranes metres leasts driven
+    run-ended le =
+        let all : take i requests ≡ requests = take-all i requests le in
+        record {
+          figures = record {
+            sent = fill-ended _ _ _ _ _ (run .sent) le;
+            drives = fill-ended _ _ _ _ _ (run .drives) le;
+            costs = fill-ended _ _ _ _ _ (run .works) le;
+            sum = rw (le-antisymm le (run .sent .most)) (run .sum);
+          };
+          stood = rw all at (run .stood);
+          kept = rw all at (run .kept);
+        }
 
 -- the number of the crane sent
 pub crane-few : {n : ℕ} {d : ℕ → ℕ → ℕ} {starts calls stands plan : List ℕ} {weights : List ℤ} {costs : List ℕ}
@@ -171,11 +186,6 @@ module _ {day : Day} {t : Table} {book : Book} (given : FreshDay day t book) whe
   unfolding freshBook
   no-calls = rw (given .fresh)
 
-  pub day-kept : {costs : List ℕ} → LegTable mostPlaces (entry (metresOf t)) (startsOf book) (requestsOf book) (standsOf book) costs
-      → Kept (day .places) (metresOf t) (startsOf book) [] (standsOf book) (book .plan) (book .weights) costs
-  day-kept table =
-      rw no-calls at (sound-kept (given .arrays) day-sound (omega (arith, given .plan)) (omega (arith, given .weights)) table)
-
   -- each crane stands at its start
   pub at-starts : startsOf book ≡ dayStarts day
   unfolding freshBook
@@ -185,14 +195,64 @@ module _ {day : Day} {t : Table} {book : Book} (given : FreshDay day t book) whe
   unfolding freshBook
   at-stands = rw (given .fresh)
 
-  -- what the calls give together, with the floor
-  pub day-figures : {sent metres leasts : List ℕ} {driven low : ℕ}
-      → DayAnswered (length (dayRequests day)) (serve (metresOf t) (day .places) (startsOf book) [] (standsOf book) (dayRequests day))
-      (replicate mostCalls 0) (replicate mostCalls 0) (replicate mostCalls 0) sent metres leasts driven
-      → low ≡ floor (metresOf t) (day .places) (startsOf book) (dayRequests day)
-      → _≡_ {A = DayFigures}
-      (record { number = 0; calls = day .calls; cranes = sent; metres = metres; leasts = leasts; driven = driven; floor = low })
-      (servedDay day t)
-  unfolding servedDay
-  day-figures told least =
-      rw (given .none, told .sent, told .drives, told .costs, told .sum, least, at-stands, at-starts, calls-long) (simp drop-replicate)
+  -- with the plan and the weights of a book without calls
+  pub day-kept : {plan : List ℕ} {weights : List ℤ} {costs : List ℕ}
+      → LegTable mostPlaces (entry (metresOf t)) (startsOf book) (requestsOf book) (standsOf book) costs
+      → Own (book .cranes) plan weights
+      → Kept (day .places) (metresOf t) (startsOf book) [] (standsOf book) plan weights costs
+  day-kept {plan} {weights} {costs} table own =
+      let asked = rw no-calls at (sound-asked (given .arrays) day-sound) in
+      let legs = rw (no-calls, at-stands) at (sound-table (given .arrays) day-sound table) in
+      rw at-stands (own-kept (λ u h. surveyed-metric (tests .surveyed) .self u h) asked legs (rw (← starts-long day-fits) at own))
+
+  module _ {stands plan : List ℕ} {weights : List ℤ} {costs sent metres leasts : List ℕ} {driven : ℕ}
+      (done : DayDone (day .places) (metresOf t) (startsOf book) (dayRequests day) (standsOf book) (replicate mostCalls 0) (replicate mostCalls 0)
+      (replicate mostCalls 0) stands plan weights costs sent metres leasts driven) where
+    -- the last stands, as they are lent out of their array
+    pub last-long : length stands ≡ book .cranes
+    last-long = done .kept .standing .cranes ∙ starts-long day-fits
+
+    pub last-within : (rest : List ℕ) → book .cranes ≤ length (stands ++ rest)
+    last-within rest = rw (length-append stands rest) (omega (arith, last-long))
+
+    pub last-lent : (rest : List ℕ) → take (book .cranes) (stands ++ rest) ≡ stands
+    last-lent rest = take-at stands rest (book .cranes) last-long
+
+    -- the way home may be asked for, and the ends of the plan may be moved to the starts
+    pub home-given : HomeGiven (entry (metresOf t)) stands (startsOf book)
+    home-given = record {
+      places = day .places;
+      legible = read-legible (sound-roads day-sound .legible);
+      asked = record {
+        day = stood-day day-asked (done .kept .standing);
+        cranes = rw (done .kept .standing .cranes) (day-asked .cranes);
+        few = zero-le;
+      };
+      ending = rw (done .kept .standing .cranes) (day-asked .day .started);
+    }
+
+    pub floor-given : planRoom ≤ length plan → planRoom ≤ length weights
+        → EndsGiven (entry (metresOf t)) (startsOf book) (dayRequests day) (startsOf book) plan weights costs
+    floor-given planLong weightsLong = record {
+      places = day .places;
+      stands = stands;
+      movable = kept-movable (sound-roads day-sound .legible) (done .kept) planLong weightsLong;
+      ending = day-asked .day .started;
+    }
+
+    -- what the calls give together, with the way home and the floor
+    pub day-figures : {way low : ℕ} (lent : List ℕ) → lent ≡ stands
+        → way ≡ leastPlan (length lent) (stops lent []) (legCost (entry (metresOf t)) lent [] (startsOf book))
+        → low ≡ leastPlan (length (startsOf book)) (stops (startsOf book) (dayRequests day))
+        (legCost (entry (metresOf t)) (startsOf book) (dayRequests day) (startsOf book))
+        → _≡_ {A = DayFigures}
+        (record { number = 0; calls = day .calls; cranes = sent; metres = metres; leasts = leasts; driven = driven; home = way; floor = low })
+        (servedDay day t)
+    unfolding servedDay homeOf
+    day-figures lent same far low =
+        let told = done .figures in
+        let roads = sound-roads day-sound in
+        let back : Position (day .places) (length stands) (startsOf book) = rw (done .kept .standing .cranes) (day-asked .day .started) in
+        let home = rw same at far ∙ ends-work roads (stood-day day-asked (done .kept .standing)) back ∙ work-none (metresOf t) (day .places) stands (startsOf book) in
+        let least = low ∙ ends-floor roads (day-asked .day) in
+        rw (given .none, told .sent, told .drives, told .costs, told .sum, home, least, done .stood, at-stands, at-starts, calls-long) (simp drop-replicate)

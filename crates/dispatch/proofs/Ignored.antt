@@ -17,7 +17,7 @@ use Rattle.dispatch.specs.Commit.{commitRefusal, tidied, driveOf, leastA
 use Rattle.dispatch.specs.Costs.{costsOf}
 use Rattle.dispatch.specs.NetCosts.{netsOf}
 use Rattle.dispatch.specs.Quote.{quoteRefusal, quoteOf}
-use Rattle.dispatch.specs.ServedDay.{servedDay}
+use Rattle.dispatch.specs.ServedDay.{homeOf, servedDay}
 
 -- ---- a book
 
@@ -91,5 +91,5 @@ module _ (a b : Book) (n : ℕ) (t : Table) (books : SameBook a b) where
 module _ (a b : Day) (t : Table) (days : SameDay a b) where
   -- the served day
   pub same-day-served : servedDay a t ≡ servedDay b t
-  unfolding servedDay
+  unfolding servedDay homeOf
   same-day-served = rw (same-refusal a b t days, days .starts, days .requests, days .places, days .calls)

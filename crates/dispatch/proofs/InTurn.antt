@@ -16,6 +16,7 @@ use Rattle.dayfile.specs.Day.{dayStarts, dayRequests, DayArrays, dayRefusal}
 use Rattle.dayfile.proofs.Limits.{Tested, day-tested, stop-below, length-requests}
 use Rattle.workfunction.specs.Choice.{choice}
 use Rattle.workfunction.specs.Movement.{floor}
+use Rattle.workfunction.specs.Position.{distance}
 use Rattle.workfunction.specs.Serving.{Served, servedBy, served, serve, standsAfter}
 use Rattle.workfunction.proofs.Serving.{serve-at, serve-long, stands-then}
 use Rattle.book.specs.declared.Book.{Book}
@@ -26,7 +27,7 @@ use Rattle.dispatch.specs.Commit.{driveOf}
 use Rattle.dispatch.specs.Costs.{costsOf}
 use Rattle.dispatch.specs.InTurn.{callAt, quoteAt, commitAt, InTurn}
 use Rattle.dispatch.specs.Quote.{Quoted, unserved}
-use Rattle.dispatch.specs.ServedDay.{allFigures, servedDay}
+use Rattle.dispatch.specs.ServedDay.{allFigures, homeOf, servedDay}
 use Rattle.dispatch.proofs.Added.{CallAdded}
 use Rattle.dispatch.proofs.Called.{Called, called-quote, called-commit}
 use Rattle.dispatch.proofs.DayServed.{fresh-day, at-starts, at-stands, no-calls}
@@ -153,8 +154,16 @@ module _ (day : Day) (t : Table) (books : ℕ → Book) (arrays : DayArrays day)
       let last = all-turned (day .calls) (le-refl (day .calls)) in
       rw (last .sound, last .starts, last .requests) (rw (take-all (day .calls) (dayRequests day) (omega (arith, calls-long))))
 
+  -- the way home is that of the book after the last call
+  home-is : homeOf day t ≡ distance (metresOf t) (standsOf (books (day .calls))) (startsOf (books (day .calls)))
+  unfolding homeOf
+  home-is =
+      let last = all-turned (day .calls) (le-refl (day .calls)) in
+      rw (last .stands, last .starts) (rw (take-all (day .calls) (dayRequests day) (omega (arith, calls-long))))
+
   -- the served day is the fresh book and, for each call, a quote followed by the commit of its crane
   pub day-in-turn : servedDay day t
-      ≡ allFigures (day .calls) (upTo (day .calls) (λ i. quoteAt day t books i .figures)) (costsOf (books (day .calls)) (day .places) t .floor)
+      ≡ allFigures (day .calls) (upTo (day .calls) (λ i. quoteAt day t books i .figures))
+      (distance (metresOf t) (standsOf (books (day .calls))) (startsOf (books (day .calls)))) (costsOf (books (day .calls)) (day .places) t .floor)
   unfolding servedDay
-  day-in-turn = rw (accepted, floor-is, ← all-quoted)
+  day-in-turn = rw (accepted, floor-is, home-is, ← all-quoted)

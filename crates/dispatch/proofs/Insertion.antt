@@ -4,7 +4,8 @@
 use Prim.Native.Nat.{ℕ, _+_, _*_, _<_, _≤_}
 use mathlib.Core.Bool.{true}
 use mathlib.Core.List.{List, [], _∷_, _++_}
-use mathlib.Core.Path.{_≡_, ap, _∙_}
+use mathlib.Core.Logic.{_⊎_}
+use mathlib.Core.Path.{_≡_, refl, sym, _∙_}
 use lib.IntN.{ℤ, pos, _-ℤ_}
 use lib.ListN.{length, getD}
 use native.Mathlib.Decide.{ℕ-discrete}
@@ -19,15 +20,17 @@ use Rattle.workfunction.specs.Movement.{Instance, work}
 use Rattle.workfunction.specs.NetCost.{StopNets}
 use Rattle.workfunction.specs.Plan.{planRule, vouchRule, planCost, stops, legCost}
 use Rattle.workfunction.specs.Position.{Position}
-use Rattle.workfunction.proofs.Keys.{preferred-least, none, next, preferred-same}
-use Rattle.workfunction.proofs.NetCost.{follower-on, whole, by-stops, net-most, net-least, net-work, flipped-plan, flipped-rule, staying-rule}
+use Rattle.workfunction.proofs.Keys.{none, next, preferred-same}
+use Rattle.workfunction.proofs.NetCost.{Arrived, follower-on, whole, by-stops, nets-over, net-most, net-least, net-work, flipped-plan, flipped-rule, moved-plan, moved-rule, arrived-at, leg-before}
 use Rattle.workfunction.proofs.Plan.{Plan, plan-rule, stop-only}
+use Rattle.workfunction.proofs.Position.{position-set}
 use Rattle.workfunction.proofs.Stops.{place-last, place-stand}
 use Rattle.workfunction.proofs.Sums.{entry-in}
 use Rattle.book.specs.Book.{mostStops, weightRule, rangeRule}
 use Rattle.dispatch.specs.Insertion.{leastEnd, Found, Inserted, Netted}
+use Rattle.dispatch.specs.Legs.{planRoom}
 use Rattle.dispatch.specs.Search.{netBase, netOf, Matched}
-use Rattle.book.proofs.Vouching.{in-range}
+use Rattle.book.proofs.Vouching.{in-range, same-vouching}
 
 pub matched-plan : {k N : ℕ} {f : ℕ → ℕ} → Plan k N f → f N ≡ N → Matched N f
 matched-plan plan self =
@@ -55,7 +58,7 @@ module _ {k N : ℕ} {f : ℕ → ℕ} {c : ℕ → ℕ → ℕ} {s : ℕ} {g : 
   weighed : (q : ℕ) → q ≤ N → y (f q) ≡ pos netBase -ℤ pos (netOf f c (taken .total) q)
   weighed q h = taken .reweighed .renewed q h ∙ neg-difference (pos (netOf f c (taken .total) q)) (pos netBase)
 
-  module _ (few : N < mostStops) (short : (p b : ℕ) → p ≤ N → b ≤ N → c p b ≤ mostMetres) where
+  module _ (few : N < planRoom) (short : (p b : ℕ) → p ≤ N → b ≤ N → c p b ≤ mostMetres) where
     -- whatever the old weights were
     pub inserted-within : (b : ℕ) → b ≤ N → (plus (y b) ≤ mostStops * mostMetres) × (minus (y b) ≤ mostMetres)
     inserted-within b h = by-stops plan self (λ b. (plus (y b) ≤ mostStops * mostMetres) × (minus (y b) ≤ mostMetres)) each b (omega arith)
@@ -75,27 +78,6 @@ module _ {k N : ℕ} {f : ℕ → ℕ} {c : ℕ → ℕ → ℕ} {s : ℕ} {g : 
             let high = near .0 in
             let low = near .1 in
             in-range (y b) (omega arith) (omega arith)
-
-  -- where the end is the least one
-  module _ (some : 0 < k) (chosen : s ≡ leastEnd k N (taken .netEnd) c) where
-    -- it is of the least net cost and way from N together
-    least-end : (q : ℕ) → q ≤ N → f q < k
-        → netOf f c (taken .total) (taken .before s) + c N (f (taken .before s)) ≤ netOf f c (taken .total) q + c N (f q)
-    least-end q h end =
-        let free = taken .found .freed in
-        let low = free .stop (f q) end in
-        let same = stop-only (whole plan self) (taken .before (f q)) q (omega arith) (omega arith) (free .follows (f q) end) in
-        let least : taken .netEnd s + c N s ≤ taken .netEnd (f q) + c N (f q) =
-        rw chosen (preferred-least (λ e. taken .netEnd e + c N e) _ k some (f q) end)
-        in
-        let own = free .costs s (taken .end) in
-        let other = free .costs (f q) end ∙ ap (netOf f c (taken .total)) same in
-        let way = ap (c N) (free .follows s (taken .end)) in
-        omega arith
-
-    -- and the ends stay
-    pub inserted-vouched : vouchRule k (N + 1) g c y ≡ true
-    inserted-vouched = staying-rule plan self (taken .found .searched .nets) end-stop end-follows (taken .flipped) least-end y weighed
 
 -- a weight that becomes 0
 pub range-moved : (n s : ℕ) (y z : ℕ → ℤ) → rangeRule n y ≡ true → z s ≡ pos 0 → ((b : ℕ) → (b ≡ s → ⊥) → z b ≡ y b) → rangeRule n z ≡ true
@@ -138,28 +120,7 @@ module _ {n : ℕ} {d : ℕ → ℕ → ℕ} (laws : Metric n d) {starts calls s
   module _ {total parent rank before netEnd : ℕ → ℕ} (found : Found (length starts) N f c total parent rank before netEnd) where
     -- the net costs are those of the legs
     nets : StopNets (length starts) N netBase f (legCost d starts (calls ++ (r ∷ [])) stands) (netOf f c total) parent rank
-    nets = record {
-      source = costs .source;
-      least = λ p q lt le may.
-          let own = leg p p (le-of-lt lt) (le-of-lt lt) in
-          let other = leg p q (le-of-lt lt) le in
-          let least = costs .least p q lt le may in
-          omega arith;
-      attained = λ p lt.
-          let own = leg p p (le-of-lt lt) (le-of-lt lt) in
-          let other = leg p (parent p) (le-of-lt lt) (costs .chains .below p lt) in
-          let attained = costs .attained p lt in
-          omega arith;
-      allowed = costs .allowed;
-      chains = costs .chains;
-      ranked = costs .ranked;
-    }
-      where
-        costs : StopNets (length starts) N netBase f c (netOf f c total) parent rank
-        costs = found .searched .nets
-
-        leg : (p q : ℕ) → p ≤ N → q ≤ N → c p (f q) ≡ legCost d starts (calls ++ (r ∷ [])) stands p (f q)
-        leg p q h hq = table p (f q) h (matched-plan plan self .below q hq)
+    nets = nets-over plan self (found .searched .nets) table
 
     -- the net cost of the stop before a crane's stand tells w for that crane
     crane-work : (e : ℕ) → e < length starts → work d n starts (calls ++ (r ∷ [])) (moved stands r e) + netBase
@@ -180,3 +141,32 @@ module _ {n : ℕ} {d : ℕ → ℕ → ℕ} (laws : Metric n d) {starts calls s
       let free = taken .found .freed in
       flipped-rule laws day standing asked plan self (nets (taken .found)) (taken .before s) s (free .stop s (taken .end)) (taken .end)
       (free .follows s (taken .end)) (taken .flipped) z zero (λ q h away. same (f q) away ∙ weighed plan self taken q h)
+
+-- where the call goes again, and the stop that it followed is followed by the end s: that end is moved to r, whether the legs are those of
+-- a metric or not
+module _ {n : ℕ} (d : ℕ → ℕ → ℕ) (starts calls : List ℕ) {stands : List ℕ} (standing : Position n (length starts) stands) {r : ℕ} (asked : r < n)
+    {f : ℕ → ℕ} (plan : Plan (length starts) (stops starts calls) f) (self : f (stops starts calls) ≡ stops starts calls) {c : ℕ → ℕ → ℕ}
+    (table : (p b : ℕ) → p ≤ stops starts calls → b ≤ stops starts calls → c p b ≡ legCost d starts (calls ++ (r ∷ [])) stands p b)
+    {s : ℕ} {g : ℕ → ℕ} {old y : ℕ → ℤ} (taken : Inserted (length starts) (stops starts calls) f c s g old y) {h : ℕ → ℕ}
+    (renamed : (p : ℕ) → p < stops starts calls → ((g p ≡ stops starts calls → ⊥) × (h p ≡ g p)) ⊎ ((g p ≡ stops starts calls) × (h p ≡ s))) where
+  over-legs : StopNets (length starts) (stops starts calls) netBase f (legCost d starts (calls ++ (r ∷ [])) stands) (netOf f c (taken .total))
+      (taken .parent) (taken .rank)
+  over-legs = nets-over plan self (taken .found .searched .nets) table
+
+  serves : f (taken .before s) ≡ s
+  serves = taken .found .freed .follows s (taken .end)
+
+  arrived : Arrived (stops starts calls) s (legCost d starts (calls ++ (r ∷ [])) stands) (legCost d starts (calls ++ (r ∷ [])) (moved stands r s))
+  arrived = arrived-at d starts calls standing r s (taken .end)
+
+  pub ended-plan : Plan (length starts) (stops starts calls) h
+  ended-plan = moved-plan plan self over-legs (end-stop plan self taken) (end-follows plan self taken) (taken .flipped) serves arrived renamed
+
+  pub ended-vouched : (z : ℕ → ℤ) → z s ≡ pos 0 → ((b : ℕ) → (b ≡ s → ⊥) → z b ≡ y b)
+      → vouchRule (length starts) (stops starts calls) h (legCost d starts calls (moved stands r s)) z ≡ true
+  ended-vouched z zero same =
+      let there : Position n (length starts) (moved stands r s) = position-set stands s r asked standing in
+      sym (same-vouching (length starts) (stops starts calls) h h _ _ z z (ended-plan .below) (λ p l. refl) (λ b l. refl)
+      (λ p b lt l. leg-before d starts calls there r p b lt l))
+      ∙ moved-rule plan self over-legs (end-stop plan self taken) (end-follows plan self taken) (taken .flipped) serves arrived renamed z zero
+      (λ q l away. same (f q) away ∙ weighed plan self taken q l)

@@ -4,8 +4,8 @@ pub mod Called
 pub mod Added
 pub mod Ignored
 pub mod Insertion
+pub mod Taken
 pub mod Answered
-pub mod FreeEnds
 pub mod Carried
 pub mod DayServed
 pub mod Promise

@@ -1,13 +1,14 @@
 -- The third promise: what the two costs of a sound book, the figures of a quote, the least of a commit and the figures of a served
 -- day are the least of: of every movement and of every rearrangement, several cranes at a time included. And how a quote comes from the
 -- net costs. Assumes nothing.
-use Prim.Native.Nat.{ℕ, suc, _+_, _*_, _<_}
+use Prim.Native.Nat.{ℕ, suc, _+_, _*_, _<_, _≤_}
 use mathlib.Core.List.{List, [], _∷_, _++_, List·Memᴰ·not-nil}
 use mathlib.Core.Path.{_≡_, refl, sym, subst, _∙_}
 use lib.IntN.{ℤ, pos, _+ℤ_}
 use lib.ListN.{length, getD, take}
 use lib.Signed.{_≤ℤ_}
 use native.Mathlib.Nat.{zero-add}
+use native.Mathlib.Omega.{arith}
 use Rattle.base.specs.Lists.{upTo}
 use Rattle.base.proofs.Lists.{getD-padded, take-padded, take-upTo}
 use Rattle.road.specs.Table.{Table, mostMetres, metresOf}
@@ -17,20 +18,21 @@ use Rattle.dayfile.specs.Day.{mostCranes, mostCalls, dayStarts, dayRequests, Da
 use Rattle.dayfile.proofs.Limits.{Tested, day-tested, enough-starts, length-starts, length-requests}
 use Rattle.workfunction.specs.Choice.{moved, drive, moveSum, netCost, rearrangementSum, Chosen}
 use Rattle.workfunction.specs.Least.{IsLeast}
-use Rattle.workfunction.specs.Movement.{Instance, Serves, LeastTo, LeastOfAll, work, floor}
+use Rattle.workfunction.specs.Movement.{Instance, Serves, LeastTo, work, floor}
 use Rattle.workfunction.specs.Plan.{planCost, legCost}
+use Rattle.workfunction.specs.Position.{distance}
 use Rattle.workfunction.specs.Serving.{Served, servedBy, serve, standsAfter}
 use Rattle.workfunction.proofs.Choice.{choice-below, choice-least, chosen-only, choice-chosen, work-by-net}
-use Rattle.workfunction.proofs.Movement.{work-least, floor-least, instance-first, instance-then, work-none, floor-none}
+use Rattle.workfunction.proofs.Movement.{work-least, floor-least, floor-on, instance-first, instance-then, work-none, floor-none}
 use Rattle.workfunction.proofs.Position.{distance-self}
-use Rattle.workfunction.proofs.Serving.{serve-least, netCost-most, Bounded, serve-bounded}
+use Rattle.workfunction.proofs.Serving.{serve-least, stands-placed, work-driven, netCost-most, Bounded, serve-bounded}
 use Rattle.book.specs.declared.Book.{Book}
 use Rattle.book.specs.Book.{startsOf, standsOf, requestsOf, stopsOf, follower, BookArrays, bookRefusal, freshBook}
 use Rattle.dispatch.specs.Commit.{commitRefusal, tidied, bookAfter, driveOf, leastAfter, commitOf, Next}
 use Rattle.dispatch.specs.Costs.{costsOf}
 use Rattle.dispatch.specs.NetCosts.{netsOf}
 use Rattle.dispatch.specs.Quote.{quoteRefusal, unserved, figuresOf, quoteOf}
-use Rattle.dispatch.specs.ServedDay.{nth, servedDay}
+use Rattle.dispatch.specs.ServedDay.{nth, homeOf, servedDay}
 use Rattle.dispatch.proofs.Added.{CallAdded, next-arrays, next-added}
 use Rattle.dispatch.proofs.Called.{Called, quote-called, called-quote, commit-called, called-commit}
 use Rattle.book.proofs.FreshBook.{fresh-sound}
@@ -59,8 +61,8 @@ module _ {book : Book} (arrays : BookArrays book) (n : ℕ) (t : Table) (accepte
   pub book-least : LeastTo (metresOf t) n (startsOf book) (requestsOf book) (standsOf book) (costsOf book n t .least)
   book-least = rw least-is (work-least (metresOf t) (sound-instance arrays rules) (standsOf book))
 
-  -- "The floor likewise."
-  pub book-floor : LeastOfAll (metresOf t) n (startsOf book) (requestsOf book) (costsOf book n t .floor)
+  -- "The floor likewise", paper 8: "among all movements that end at the starts"
+  pub book-floor : LeastTo (metresOf t) n (startsOf book) (requestsOf book) (startsOf book) (costsOf book n t .floor)
   book-floor = rw floor-is (floor-least (metresOf t) (sound-instance arrays rules))
 
 -- ---- a call quoted
@@ -202,9 +204,33 @@ module _ (day : Day) (t : Table) (arrays : DayArrays day) (accepted : dayRefusal
   unfolding servedDay
   day-floor-is = rw accepted
 
-  -- the floor that is told is the least cost of all movements that serve the day's calls
-  pub day-floor : LeastOfAll (metresOf t) (day .places) (dayStarts day) (dayRequests day) (servedDay day t .floor)
+  -- the floor that is told is the least cost of all movements that serve the day's calls and end at the starts
+  pub day-floor : LeastTo (metresOf t) (day .places) (dayStarts day) (dayRequests day) (dayStarts day) (servedDay day t .floor)
   day-floor = rw day-floor-is (floor-least (metresOf t) day-instance)
+
+  -- where the cranes stand once every call is served
+  abbrev last : List ℕ
+  last = standsAfter (metresOf t) (day .places) (dayStarts day) [] (dayStarts day) (dayRequests day)
+
+  -- the way home that is told is their distance from the starts
+  pub day-home : servedDay day t .home ≡ distance (metresOf t) last (dayStarts day)
+  unfolding servedDay homeOf
+  day-home = rw accepted
+
+  -- the cranes drive and go home on no less than the floor
+  pub day-floor-driven : servedDay day t .floor ≤ servedDay day t .driven + servedDay day t .home
+  unfolding servedDay homeOf
+  day-floor-driven =
+      let laws = surveyed-metric (tests .surveyed) in
+      let long = length-requests day arrays (tests .counts .calls) in
+      let none = work-none (metresOf t) (day .places) (dayStarts day) (dayStarts day) ∙ distance-self laws (day-instance .started) in
+      let drives = work-driven laws unserved [] (dayStarts day) (dayRequests day) (instance-first 0 day-instance) (day-instance .started)
+      (λ r m. day-instance .called m)
+      in
+      let stood = stands-placed (metresOf t) (dayStarts day) [] (dayStarts day) (dayRequests day) (day-instance .started) (λ r m. day-instance .called m) in
+      let back = floor-on (metresOf t) day-instance laws stood in
+      let sum = rw (none, long) at drives in
+      rw accepted (omega arith)
 
   -- the first calls, up to call i, and the stands once it is served
   module _ (i : ℕ) (called : i < day .calls) where

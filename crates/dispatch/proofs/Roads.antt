@@ -12,10 +12,12 @@ use Rattle.dispatch.specs.Insertion.{Roads, Asked}
 
 pub roads : {n : ℕ} {t : Table} → Surveyed n t → n ≤ mostPlaces → Roads n (metresOf t) (entry (metresOf t))
 roads {t = t} surveyed most = record {
-  few = most;
+  legible = record {
+    few = most;
+    short = surveyed-short surveyed;
+    reads = λ u v p q. entry-in (metresOf t) u v (le-trans p most) (le-trans q most);
+  };
   laws = surveyed-metric surveyed;
-  short = surveyed-short surveyed;
-  reads = λ u v p q. entry-in (metresOf t) u v (le-trans p most) (le-trans q most);
 }
 
 module _ {book : Book} {n : ℕ} {t : Table} where

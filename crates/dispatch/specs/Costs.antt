@@ -16,7 +16,7 @@ pub record TwoCosts : Type 0 where
 abbrev pub twoCosts : Costs → TwoCosts
 twoCosts r = record { number = numberOf (r .verdict); least = r .least; floor = r .floor }
 
--- "The costs of a book: 'least' is w(stands); 'floor' is the smallest w(C) over all C."
+-- "The costs of a book: 'least' is w(stands)"; paper 8: "The floor becomes w(starts)"
 unfoldable pub costsOf : Book → ℕ → Table → TwoCosts
 costsOf book n t =
     unlessRefused (bookRefusal book n t)

@@ -1,9 +1,10 @@
--- One more call taken into a plan with its weights, for serving and for the floor alike, and a day that is under way: no public
--- contract cites these. The new call has the number N.
+-- One more call taken into a plan with its weights, the ends of a plan moved, and a day that is under way: no public contract cites
+-- these. The new call has the number N.
 use Prim.Native.Nat.{ℕ, _+_, _*_, _<_, _≤_}
-use mathlib.Core.Bool.{true}
+use mathlib.Core.Bool.{true, cond}
 use mathlib.Core.List.{List, [], _∷_, _++_}
 use mathlib.Core.Path.{_≡_}
+use lib.Dec.{eqb}
 use lib.IntN.{ℤ}
 use lib.ListN.{length, getD, set, drop}
 use Rattle.base.specs.Lists.{upTo}
@@ -16,12 +17,12 @@ use Rattle.workfunction.specs.Movement.{Instance, work}
 use Rattle.workfunction.specs.NetCost.{Flipped}
 use Rattle.workfunction.specs.Plan.{planRule, planCost, stops, legCost}
 use Rattle.workfunction.specs.Position.{Position}
-use Rattle.workfunction.specs.Serving.{Served, servedBy}
+use Rattle.workfunction.specs.Serving.{Served, servedBy, serve, standsAfter}
 use Rattle.book.specs.declared.Book.{Book}
 use Rattle.book.specs.Book.{mostStops, startsOf, standsOf, requestsOf, stopsOf, follower, weight}
 use Rattle.dispatch.specs.declared.insert.Pick.{Pick}
 use Rattle.dispatch.specs.declared.insert.Pick.the-variants.{Least, End}
-use Rattle.dispatch.specs.Legs.{legAt, Costed, LegTable}
+use Rattle.dispatch.specs.Legs.{planRoom, legAt, Costed, LegTable}
 use Rattle.dispatch.specs.Search.{at, netBase, netOf, Sized, Certified, Witnessed, Totalled, Searched, Reweighed}
 use Rattle.dispatch.specs.Quote.{quoteRefusal}
 use Rattle.dispatch.specs.ServedDay.{nth}
@@ -34,7 +35,7 @@ pub record Freed (k N : ℕ) (f net before netEnd : ℕ → ℕ) : Type 0 where
 
 -- what the net costs of the ends are given: a plan of N stops, its totals, and room for the ends
 pub record NetsGiven (k N : ℕ) (plan costs totals nets before : List ℕ) : Type 0 where
-  pub few : N < mostStops
+  pub few : N < planRoom
   pub cranes : k ≤ N
   pub netted : k ≤ length nets
   pub freed : k ≤ length before
@@ -48,7 +49,7 @@ pub record NetsGiven (k N : ℕ) (plan costs totals nets before : List ℕ) : Ty
 pub record ChoiceGiven (k N : ℕ) (nets costs : List ℕ) : Type 0 where
   pub crane : 0 < k
   pub cranes : k ≤ mostCranes
-  pub few : N < mostStops
+  pub few : N < planRoom
   pub netted : k ≤ length nets
   pub costed : Costed costs
   pub low : (e : ℕ) → e < k → at nets e ≤ netBase + mostMetres
@@ -99,8 +100,8 @@ pub record InsertGiven (k N : ℕ) (pick : Pick) (plan : List ℕ) (weights : Li
   pub cranes : k ≤ mostCranes
   pub stops : k ≤ N
   pub ends : (e : ℕ) → e < k → picked pick e < k
-  pub planLong : mostStops ≤ length plan
-  pub weightsLong : mostStops ≤ length weights
+  pub planLong : N < length plan
+  pub weightsLong : N < length weights
   pub costed : Costed costs
   pub witnessed : Witnessed k N plan weights costs
 
@@ -110,37 +111,26 @@ pub record CallInserted (k N : ℕ) (pick : Pick) (costs plan : List ℕ) (weigh
   pub chosen : s ≡ picked pick (leastEnd k N (taken .netEnd) (legAt costs))
   pub unmoved : Unmoved N plan weights plan' weights'
 
--- what taking in all calls is given: a plan without calls, with weights that vouch for it
-pub record AllGiven (k n : ℕ) (plan : List ℕ) (weights : List ℤ) (costs : List ℕ) : Type 0 where
-  pub crane : 0 < k
-  pub cranes : k ≤ mostCranes
-  pub stops : k ≤ n
-  pub few : n ≤ mostStops
-  pub planLong : mostStops ≤ length plan
-  pub weightsLong : mostStops ≤ length weights
-  pub costed : Costed costs
-  pub short : (p b : ℕ) → p < n → b < n → legAt costs p b ≤ mostMetres
-  pub certified : Certified k k plan weights (legAt costs)
+-- of a follower: the new one where it is the old one
+unfoldable pub instead : ℕ → ℕ → ℕ → ℕ
+instead old new b = cond (eqb b old) new b
 
--- metres d between n places, and what is read off their table
-pub record Roads (n : ℕ) (d read : ℕ → ℕ → ℕ) : Type 0 where
+-- metres d between n places, within the limit of a leg, and what is read off their table
+pub record Legible (n : ℕ) (d read : ℕ → ℕ → ℕ) : Type 0 where
   pub few : n ≤ mostPlaces
-  pub laws : Metric n d
   pub short : (u v : ℕ) → u < n → v < n → d u v ≤ mostMetres
   pub reads : (u v : ℕ) → u < n → v < n → read u v ≡ d u v
+
+-- the same of a metric
+pub record Roads (n : ℕ) (d read : ℕ → ℕ → ℕ) : Type 0 where
+  pub legible : Legible n d read
+  pub laws : Metric n d
 
 -- a day within the limits of a book
 pub record Asked (n : ℕ) (starts calls : List ℕ) : Type 0 where
   pub day : Instance n starts calls
   pub cranes : length starts ≤ mostCranes
   pub few : length calls ≤ mostCalls
-
--- what the floor is given: a day over some places and metres
-pub record FloorGiven (read : ℕ → ℕ → ℕ) (starts calls : List ℕ) : Type 0 where
-  pub places : ℕ
-  pub metres : ℕ → ℕ → ℕ
-  pub roads : Roads places metres read
-  pub asked : Asked places starts calls
 
 -- a day under way: a plan to the stands with weights that vouch for it, and the table of leg costs
 pub record Kept (n : ℕ) (d : ℕ → ℕ → ℕ) (starts calls stands plan : List ℕ) (weights : List ℤ) (costs : List ℕ) : Type 0 where
@@ -150,6 +140,47 @@ pub record Kept (n : ℕ) (d : ℕ → ℕ → ℕ) (starts calls stands plan : 
   pub table : LegTable n d starts calls stands costs
   pub planLong : mostStops ≤ length plan
   pub weightsLong : mostStops ≤ length weights
+
+-- such a plan with room for one more call, over what is read off a table of n places, whether it keeps the triangle rule or not: its
+-- ends, here the stands, may be moved
+pub record Movable (n : ℕ) (read : ℕ → ℕ → ℕ) (starts calls stands plan : List ℕ) (weights : List ℤ) (costs : List ℕ) : Type 0 where
+  pub legible : Legible n read read
+  pub kept : Kept n read starts calls stands plan weights costs
+  pub planLong : planRoom ≤ length plan
+  pub weightsLong : planRoom ≤ length weights
+
+-- what moving the end e to r is given: a plan with some ends
+pub record EndGiven (read : ℕ → ℕ → ℕ) (starts calls : List ℕ) (e r : ℕ) (plan : List ℕ) (weights : List ℤ) (costs : List ℕ) : Type 0 where
+  pub places : ℕ
+  pub stands : List ℕ
+  pub movable : Movable places read starts calls stands plan weights costs
+  pub end : e < length starts
+  pub on : r < places
+
+-- what moving it delivers, whatever the ends were
+pub record EndMoved (read : ℕ → ℕ → ℕ) (starts calls : List ℕ) (e r : ℕ) (plan : List ℕ) (weights : List ℤ) (costs plan' : List ℕ) (weights' : List ℤ)
+    (costs' : List ℕ) : Type 0 where
+  pub there : (n : ℕ) (stands : List ℕ) → Movable n read starts calls stands plan weights costs → r < n
+      → Movable n read starts calls (moved stands r e) plan' weights' costs'
+
+-- what moving all ends to the places `to` is given
+pub record EndsGiven (read : ℕ → ℕ → ℕ) (starts calls to plan : List ℕ) (weights : List ℤ) (costs : List ℕ) : Type 0 where
+  pub places : ℕ
+  pub stands : List ℕ
+  pub movable : Movable places read starts calls stands plan weights costs
+  pub ending : Position places (length starts) to
+
+-- they are there
+pub record EndsMoved (read : ℕ → ℕ → ℕ) (starts calls to plan : List ℕ) (weights : List ℤ) (costs : List ℕ) : Type 0 where
+  pub places : ℕ
+  pub there : Movable places read starts calls to plan weights costs
+
+-- what the way home from the stands to the starts is given
+pub record HomeGiven (read : ℕ → ℕ → ℕ) (stands starts : List ℕ) : Type 0 where
+  pub places : ℕ
+  pub legible : Legible places read read
+  pub asked : Asked places stands []
+  pub ending : Position places (length stands) starts
 
 -- a call at r served by a crane of the stands: the figures, and the day that is under way after it
 pub record Answered (n : ℕ) (d : ℕ → ℕ → ℕ) (starts calls stands : List ℕ) (r : ℕ) (pick : Pick) (told : Served) (stands' plan' : List ℕ)
@@ -223,3 +254,10 @@ pub record DayGiven (read : ℕ → ℕ → ℕ) (starts requests stands plan : 
   pub sent : length requests ≤ length cranes
   pub driven : length requests ≤ length metres
   pub costed : length requests ≤ length leasts
+
+-- all calls of a day served: their figures, where the cranes stand, and the plan to there
+pub record DayDone (n : ℕ) (d : ℕ → ℕ → ℕ) (starts requests stands cranes metres leasts stands' plan' : List ℕ) (weights' : List ℤ)
+    (costs' cranes' metres' leasts' : List ℕ) (driven : ℕ) : Type 0 where
+  pub figures : DayAnswered (length requests) (serve d n starts [] stands requests) cranes metres leasts cranes' metres' leasts' driven
+  pub stood : stands' ≡ standsAfter d n starts [] stands requests
+  pub kept : Kept n d starts requests stands' plan' weights' costs'

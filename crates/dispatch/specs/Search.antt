@@ -1,5 +1,5 @@
 -- What the parts of the search for net costs do, of the flip and of the new weights: no public contract cites these. The new
--- call has the number N; totals, parents and ranks are by stop. An open stop, one that is not settled, has the rank `mostStops`. A
+-- call has the number N; totals, parents and ranks are by stop. An open stop, one that is not settled, has the rank `planRoom`. A
 -- record whose name ends in `Given` is what a function is given.
 use Prim.Native.Nat.{ℕ, _+_, _-_, _<_, _≤_}
 use mathlib.Core.Bool.{true, cond}
@@ -12,9 +12,9 @@ use lib.ListN.{length, getD}
 use Rattle.road.specs.Table.{mostMetres}
 use Rattle.workfunction.specs.NetCost.{StopNets, Chains, Flipped}
 use Rattle.workfunction.specs.Plan.{planRule, vouchRule}
-use Rattle.book.specs.Book.{mostStops, follower, weight, rangeRule}
+use Rattle.book.specs.Book.{follower, weight, rangeRule}
 use Rattle.book.specs.Weights.{Weighed}
-use Rattle.dispatch.specs.Legs.{legAt, Costed}
+use Rattle.dispatch.specs.Legs.{planRoom, legAt, Costed}
 
 -- an array by its indices
 abbrev pub at : List ℕ → ℕ → ℕ
@@ -45,7 +45,7 @@ reach k N b = cond (ltb b k) N b
 
 -- what the beginning of the search is given: the table of the legs, and room
 pub record BeginGiven (N : ℕ) (costs totals parents ranks : List ℕ) : Type 0 where
-  pub few : N < mostStops
+  pub few : N < planRoom
   pub costed : Costed costs
   pub totalled : N < length totals
   pub parented : N < length parents
@@ -55,7 +55,7 @@ pub record BeginGiven (N : ℕ) (costs totals parents ranks : List ℕ) : Type 0
 pub record Begun (N : ℕ) (row total parent rank : ℕ → ℕ) : Type 0 where
   pub totals : (p : ℕ) → p ≤ N → total p ≡ netBase + row p
   pub parents : (p : ℕ) → p ≤ N → parent p ≡ N
-  pub unsettled : (p : ℕ) → p < N → rank p ≡ mostStops
+  pub unsettled : (p : ℕ) → p < N → rank p ≡ planRoom
   pub source : rank N ≡ 0
 
 -- every stop of a list has a head and a total, and its key, their sum, is below 2^63, from which the least is sought
@@ -88,7 +88,7 @@ pub record Relaxed (limit net from : ℕ) (row total parent total' parent' : ℕ
 
 -- what a settled stop's row of work is given: the stop q, whose total holds the leg to its follower
 pub record SettleGiven (N : ℕ) (plan costs : List ℕ) (q : ℕ) (totals parents : List ℕ) : Type 0 where
-  pub few : N < mostStops
+  pub few : N < planRoom
   pub stop : q < N
   pub follows : follower plan q < N
   pub planned : N < length plan
@@ -100,7 +100,7 @@ pub record SettleGiven (N : ℕ) (plan costs : List ℕ) (q : ℕ) (totals paren
 
 -- what the rounds stand on: a plan of N stops, leg costs within the limit of a leg, and heads that vouch, up to 2^42
 pub record Ready (k N : ℕ) (f : ℕ → ℕ) (c : ℕ → ℕ → ℕ) (head : ℕ → ℕ) : Type 0 where
-  pub most : N < mostStops
+  pub most : N < planRoom
   pub below : (p : ℕ) → p < N → f p < N
   pub new : f N ≡ N
   pub cost : (p b : ℕ) → p ≤ N → b ≤ N → c p b ≤ mostMetres
@@ -132,7 +132,7 @@ pub record Certified (k N : ℕ) (plan : List ℕ) (weights : List ℤ) (c : ℕ
 
 -- what the search begins from: such a plan, with room for one more call, the legs of which are within the limit too
 pub record Witnessed (k N : ℕ) (plan : List ℕ) (weights : List ℤ) (costs : List ℕ) : Type 0 where
-  pub few : N < mostStops
+  pub few : N < planRoom
   pub weighed : N ≤ length weights
   pub certified : Certified k N plan weights (legAt costs)
   pub short : (p b : ℕ) → p ≤ N → b ≤ N → legAt costs p b ≤ mostMetres
@@ -177,7 +177,7 @@ pub record PlanFlipped (N t : ℕ) (parents plan plan' : List ℕ) : Type 0 wher
 
 -- what the renewal of weights is given
 pub record RenewGiven (N : ℕ) (plan totals costs : List ℕ) (weights : List ℤ) : Type 0 where
-  pub few : N < mostStops
+  pub few : N < planRoom
   pub planned : N < length plan
   pub totalsLong : N < length totals
   pub weighed : N < length weights

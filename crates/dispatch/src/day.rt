@@ -1,7 +1,9 @@
 // A whole day: what is told of it, refused or served.
 use crate::ServedDay;
 use crate::floor;
+use crate::home;
 use crate::legs;
+use crate::plan;
 use crate::serve;
 use base::Verdict;
 use book::Book;
@@ -23,6 +25,7 @@ pub(crate) fn refused(verdict: Verdict) -> ServedDay
         metres: [0; Book::CALLS],
         leasts: [0; Book::CALLS],
         driven: 0,
+        home: 0,
         floor: 0,
     }
 }
@@ -32,21 +35,23 @@ pub(crate) fn served(day: Day, fresh: Book, table: &[u32]) -> ServedDay
     requires { ⌜ (dayRefusal day (now table) ≡ 0) × (fresh ≡ freshBook (day .cranes) (day .starts)) ⌝ }
     ensures { λ r. ⌜ dayFigures r ≡ servedDay day (now (table .entry)) ⌝ }
 {
+    let cranes = fresh.cranes;
     let starts = fresh.starts;
     let requests = day.requests;
     let mut stands = fresh.stands;
-    let mut plan = fresh.plan;
-    let mut weights = fresh.weights;
+    let mut plan = [0; legs::ROOM];
+    let mut weights = [0; legs::ROOM];
     let mut costs = legs::zeros();
     let mut sent = [0; Book::CALLS];
     let mut metres = [0; Book::CALLS];
     let mut leasts = [0; Book::CALLS];
+    plan::fill_own(cranes, &mut plan[..]);
     legs::of_book(fresh, table, &mut costs[..]);
     let driven = serve::serve_all(
         table,
-        &starts[..fresh.cranes],
+        &starts[..cranes],
         &requests[..day.calls],
-        &mut stands[..fresh.cranes],
+        &mut stands[..cranes],
         &mut plan[..],
         &mut weights[..],
         &mut costs[..],
@@ -54,7 +59,15 @@ pub(crate) fn served(day: Day, fresh: Book, table: &[u32]) -> ServedDay
         &mut metres[..],
         &mut leasts[..],
     );
-    let floor = floor::floor(table, &starts[..fresh.cranes], &requests[..day.calls]);
+    let home = home::home(table, &stands[..cranes], &starts[..cranes]);
+    let floor = floor::floor(
+        table,
+        &starts[..cranes],
+        &requests[..day.calls],
+        &mut plan[..],
+        &mut weights[..],
+        &mut costs[..],
+    );
     ServedDay {
         verdict: Verdict::Accepted,
         calls: day.calls,
@@ -62,6 +75,7 @@ pub(crate) fn served(day: Day, fresh: Book, table: &[u32]) -> ServedDay
         metres,
         leasts,
         driven,
+        home,
         floor,
     }
 }

@@ -2,6 +2,7 @@
 // an end, the new weights and the flip.
 use crate::choice;
 use crate::flip;
+use crate::legs;
 use crate::search;
 use crate::weights;
 use book::Book;
@@ -9,8 +10,8 @@ ghost use mathlib.Core.Path.{_≡_};
 ghost use lib.ListN.{set};
 ghost use Rattle.book.specs.Book.{follower};
 ghost use Rattle.dispatch.specs.Legs.{legAt};
-ghost use Rattle.dispatch.specs.Search.{at, Certified};
-ghost use Rattle.dispatch.specs.Insertion.{ChoiceGiven, leastEnd, picked, Found, FindGiven, InsertGiven, CallInserted, AllGiven};
+ghost use Rattle.dispatch.specs.Search.{at};
+ghost use Rattle.dispatch.specs.Insertion.{ChoiceGiven, leastEnd, picked, Found, FindGiven, InsertGiven, CallInserted};
 
 // The end for which a call is taken in: the least one, or a given one.
 pub(crate) enum Pick {
@@ -65,9 +66,9 @@ pub(crate) fn insert(
     requires { ⌜ InsertGiven cranes new pick (now plan) (now weights) (now costs) ⌝ }
     ensures { λ r. ⌜ CallInserted cranes new pick (now (costs .entry)) (now (plan .entry)) (now (weights .entry)) r (now (plan .exit)) (now (weights .exit)) ⌝ }
 {
-    let mut totals = [0; Book::STOPS];
-    let mut parents = [0; Book::STOPS];
-    let mut ranks = [0; Book::STOPS];
+    let mut totals = [0; legs::ROOM];
+    let mut parents = [0; legs::ROOM];
+    let mut ranks = [0; legs::ROOM];
     let mut nets = [0; Book::CRANES];
     let mut before = [0; Book::CRANES];
     find(
@@ -88,22 +89,4 @@ pub(crate) fn insert(
     weights::renew(new, plan, &totals[..], costs, weights);
     flip::flip(new, before[end], &parents[..], &ranks[..], plan);
     end
-}
-
-// Takes in the calls of the numbers from `cranes` up to `stops`, one after another, with ends that stay.
-pub(crate) fn insert_all(
-    cranes: usize,
-    stops: usize,
-    costs: &[u32],
-    plan: &mut [u16],
-    weights: &mut [i64],
-)
-    requires { ⌜ AllGiven cranes stops (now plan) (now weights) (now costs) ⌝ }
-    ensures { λ _. ⌜ Certified cranes stops (now (plan .exit)) (now (weights .exit)) (legAt (now (costs .entry))) ⌝ }
-{
-    let mut new = cranes;
-    while new < stops {
-        insert(cranes, new, Pick::Least, costs, plan, weights);
-        new += 1;
-    }
 }

@@ -1,5 +1,5 @@
-// The leg costs as one table of numbers. Its rows are of one length, with a column for each stop: row 0 is for free ends, row x + 1
-// for the place x, and the last row says of each follower which row is its own.
+// The leg costs as one table of numbers. Its rows are of one length, with a column for each stop: row x is for the place x, and the last
+// row says of each follower at which place it is.
 use book::Book;
 use road::Road;
 ghost use mathlib.Core.Path.{_≡_};
@@ -8,47 +8,47 @@ ghost use lib.ListN.{length, getD};
 ghost use Rattle.base.specs.Lists.{upTo};
 ghost use Rattle.road.specs.Table.{mostPlaces, metresOf, entry};
 ghost use Rattle.workfunction.specs.Plan.{stops, place};
-ghost use Rattle.book.specs.Book.{mostStops, startsOf, standsOf, requestsOf};
-ghost use Rattle.dispatch.specs.Legs.{followerRow, legAt, Costed, Blank, LegTable, FreeTable, RowsFilled, FollowerPut, FollowersGiven, FollowersPut, TableGiven, FreeGiven, BookGiven, ColumnFilled, StopAdded};
+ghost use Rattle.book.specs.Book.{startsOf, standsOf, requestsOf};
+ghost use Rattle.dispatch.specs.Legs.{planRoom, followerRow, legAt, Costed, LegTable, RowsFilled, FollowerPut, FollowersGiven, FollowersPut, TableGiven, BookGiven, ColumnFilled, StopAdded};
 
-// The length of a row.
-const ROW: usize = Book::STOPS;
+// The stops that a plan at work has room for, and the length of a row: those of a book, and one more for the call by which an end is moved.
+pub(crate) const ROOM: usize = Book::STOPS + 1;
 
 // Where the last row begins.
-const LAST: usize = ROW * (Road::PLACES + 1);
+const LAST: usize = ROOM * Road::PLACES;
 
 // The numbers of the whole table.
-pub(crate) const COSTS: usize = ROW * (Road::PLACES + 2);
+pub(crate) const COSTS: usize = ROOM * (Road::PLACES + 1);
 
-// A table in which every end is free.
+// A table with no leg filled in.
 pub(crate) fn zeros() -> [u32; COSTS]
-    ensures { λ r. ⌜ Blank r ⌝ }
+    ensures { λ r. ⌜ Costed r ⌝ }
 {
     [0; COSTS]
 }
 
 // The row of follower b.
 fn row_of(costs: &[u32], b: usize) -> usize
-    requires { ⌜ (b < mostStops) × Costed (now costs) ⌝ }
-    ensures { λ r. ⌜ (r ≡ followerRow (now (costs .entry)) b) × (r ≤ mostPlaces) ⌝ }
+    requires { ⌜ (b < planRoom) × Costed (now costs) ⌝ }
+    ensures { λ r. ⌜ (r ≡ followerRow (now (costs .entry)) b) × (r < mostPlaces) ⌝ }
 {
     costs[LAST + b] as usize
 }
 
 // The cost of the leg from stop p to follower b.
 pub(crate) fn cost(costs: &[u32], p: usize, b: usize) -> u32
-    requires { ⌜ (p < mostStops) × ((b < mostStops) × Costed (now costs)) ⌝ }
+    requires { ⌜ (p < planRoom) × ((b < planRoom) × Costed (now costs)) ⌝ }
     ensures { λ r. ⌜ r ≡ legAt (now (costs .entry)) p b ⌝ }
 {
-    costs[ROW * row_of(costs, b) + p]
+    costs[ROOM * row_of(costs, b) + p]
 }
 
 // The costs of the legs to follower b from the stops below `end`.
 pub(crate) fn row_to(costs: &[u32], b: usize, end: usize) -> &[u32]
-    requires { ⌜ (end ≤ mostStops) × ((b < mostStops) × Costed (now costs)) ⌝ }
+    requires { ⌜ (end ≤ planRoom) × ((b < planRoom) × Costed (now costs)) ⌝ }
     ensures { λ r. ⌜ now r ≡ upTo end (λ p. legAt (now (costs .entry)) p b) ⌝ }
 {
-    let from = ROW * row_of(costs, b);
+    let from = ROOM * row_of(costs, b);
     let to = from + end;
     &costs[from..to]
 }
@@ -77,13 +77,13 @@ fn fill_row(table: &[u32], starts: &[u16], calls: &[u16], to: usize, row: &mut [
 
 // The rows of all places.
 fn fill_rows(table: &[u32], starts: &[u16], calls: &[u16], costs: &mut [u32])
-    requires { ⌜ (stops (now starts) (now calls) ≤ mostStops) × Costed (now costs) ⌝ }
+    requires { ⌜ (stops (now starts) (now calls) ≤ planRoom) × Costed (now costs) ⌝ }
     ensures { λ _. ⌜ RowsFilled mostPlaces (entry (metresOf (now (table .entry)))) (now (starts .entry)) (now (calls .entry)) (now (costs .entry)) (now (costs .exit)) ⌝ }
 {
     let stops = starts.len() + calls.len();
     let mut x = 0;
     while x < Road::PLACES {
-        let at = ROW * (x + 1);
+        let at = ROOM * x;
         fill_row(table, starts, calls, x, &mut costs[at..at + stops]);
         x += 1;
     }
@@ -91,10 +91,10 @@ fn fill_rows(table: &[u32], starts: &[u16], calls: &[u16], costs: &mut [u32])
 
 // Follower b is at `place` from here on.
 pub(crate) fn put(b: usize, place: u16, costs: &mut [u32])
-    requires { ⌜ (b < mostStops) × ((place < mostPlaces) × Costed (now costs)) ⌝ }
+    requires { ⌜ (b < planRoom) × ((place < mostPlaces) × Costed (now costs)) ⌝ }
     ensures { λ _. ⌜ FollowerPut b place (now (costs .entry)) (now (costs .exit)) ⌝ }
 {
-    costs[LAST + b] = place as u32 + 1;
+    costs[LAST + b] = place as u32;
 }
 
 // The followers from `first` on are at these places.
@@ -109,22 +109,13 @@ fn put_all(places: &[u16], first: usize, costs: &mut [u32])
     }
 }
 
-// The whole table of a book's legs.
-fn fill(table: &[u32], starts: &[u16], calls: &[u16], stands: &[u16], costs: &mut [u32])
+// The whole table of a plan's legs.
+pub(crate) fn fill(table: &[u32], starts: &[u16], calls: &[u16], stands: &[u16], costs: &mut [u32])
     requires { ⌜ TableGiven (now starts) (now calls) (now stands) (now costs) ⌝ }
     ensures { λ _. ⌜ LegTable mostPlaces (entry (metresOf (now (table .entry)))) (now (starts .entry)) (now (calls .entry)) (now (stands .entry)) (now (costs .exit)) ⌝ }
 {
     fill_rows(table, starts, calls, costs);
     put_all(stands, 0, costs);
-    put_all(calls, starts.len(), costs);
-}
-
-// The table of legs with free ends, from one of zeros.
-pub(crate) fn fill_free(table: &[u32], starts: &[u16], calls: &[u16], costs: &mut [u32])
-    requires { ⌜ FreeGiven (now starts) (now calls) (now costs) ⌝ }
-    ensures { λ _. ⌜ FreeTable (entry (metresOf (now (table .entry)))) (now (starts .entry)) (now (calls .entry)) (now (costs .exit)) ⌝ }
-{
-    fill_rows(table, starts, calls, costs);
     put_all(calls, starts.len(), costs);
 }
 
@@ -147,19 +138,19 @@ pub(crate) fn of_book(book: Book, table: &[u32], costs: &mut [u32])
 
 // The column of stop p, at the place `from`: the metres from it to each place.
 fn fill_column(table: &[u32], from: usize, p: usize, costs: &mut [u32])
-    requires { ⌜ (p < mostStops) × Costed (now costs) ⌝ }
+    requires { ⌜ (p < planRoom) × Costed (now costs) ⌝ }
     ensures { λ _. ⌜ ColumnFilled mostPlaces (entry (metresOf (now (table .entry))) from) p (now (costs .entry)) (now (costs .exit)) ⌝ }
 {
     let mut x = 0;
     while x < Road::PLACES {
-        costs[ROW * (x + 1) + p] = Road::metres(table, from, x);
+        costs[ROOM * x + p] = Road::metres(table, from, x);
         x += 1;
     }
 }
 
 // The call of the number `new`, at `place`, is added to the table: one column, and its row as a follower.
 pub(crate) fn extend(table: &[u32], new: usize, place: u16, costs: &mut [u32])
-    requires { ⌜ (new < mostStops) × ((place < mostPlaces) × Costed (now costs)) ⌝ }
+    requires { ⌜ (new < planRoom) × ((place < mostPlaces) × Costed (now costs)) ⌝ }
     ensures { λ _. ⌜ StopAdded (entry (metresOf (now (table .entry)))) new place (now (costs .entry)) (now (costs .exit)) ⌝ }
 {
     fill_column(table, place as usize, new, costs);

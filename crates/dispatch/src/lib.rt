@@ -5,8 +5,10 @@ mod choice;
 mod commits;
 mod cost;
 mod day;
+mod ends;
 mod flip;
 mod floor;
+mod home;
 mod insert;
 mod legs;
 mod nets;
@@ -59,7 +61,7 @@ pub struct Costs {
 }
 
 // A day served from its fresh book: of each call the crane sent, the metres that it drives and the least cost after it; the sum
-// of the drives, and the floor. Or the refusal and zeros. Entries past the number of calls are 0.
+// of the drives, the way home, and the floor. Or the refusal and zeros. Entries past the number of calls are 0.
 pub struct ServedDay {
     pub verdict: Verdict,
     pub calls: usize,
@@ -67,6 +69,7 @@ pub struct ServedDay {
     pub metres: [u32; Book::CALLS],
     pub leasts: [u64; Book::CALLS],
     pub driven: u64,
+    pub home: u64,
     pub floor: u64,
 }
 
@@ -109,7 +112,7 @@ impl Dispatch {
         commits::accepted(book, table, place, crane)
     }
 
-    // The two costs of a book: the least cost of all movements that end at the stands, and of all movements; the book's test.
+    // The two costs of a book: the least cost of all movements that end at the stands, and of all that end at the starts; the book's test.
     pub fn costs(book: Book, places: usize, table: &[u32]) -> Costs
         ensures { λ r. ⌜ twoCosts r ≡ costsOf book places (now (table .entry)) ⌝ }
     {
@@ -121,13 +124,7 @@ impl Dispatch {
                 floor: 0,
             };
         };
-        let least = cost::least(book, table);
-        let floor = cost::floor(book, table);
-        Costs {
-            verdict: Verdict::Accepted,
-            least,
-            floor,
-        }
+        cost::accepted(book, table)
     }
 
     // A whole day, its calls served in turn from the fresh book; the test of the day.

@@ -27,9 +27,9 @@ pub(crate) fn of_book(book: Book, table: &[u32], place: u16, nets: &mut [u64], c
     let new = cranes + book.calls;
     let weights = book.weights;
     let mut plan = book.plan;
-    let mut totals = [0; Book::STOPS];
-    let mut parents = [0; Book::STOPS];
-    let mut ranks = [0; Book::STOPS];
+    let mut totals = [0; legs::ROOM];
+    let mut parents = [0; legs::ROOM];
+    let mut ranks = [0; legs::ROOM];
     let mut before = [0; Book::CRANES];
     legs::of_book(book, table, costs);
     legs::extend(table, new, place, costs);

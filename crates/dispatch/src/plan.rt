@@ -1,4 +1,4 @@
-// The cost of a plan, and the list of numbers from which a plan without calls begins.
+// The cost of a plan, and its followers as a list: that from which a plan without calls begins, a copy, one follower in another's place.
 use crate::legs;
 ghost use mathlib.Core.List.{_++_};
 ghost use mathlib.Core.Path.{_≡_};
@@ -8,6 +8,7 @@ ghost use Rattle.base.specs.Lists.{upTo};
 ghost use Rattle.workfunction.specs.Plan.{planCost};
 ghost use Rattle.book.specs.Book.{mostStops, follower};
 ghost use Rattle.dispatch.specs.Legs.{legAt, CostGiven};
+ghost use Rattle.dispatch.specs.Insertion.{instead as Insertion·instead};
 
 // Each entry below a count is its own number: without a call, each start is followed by its own end.
 pub(crate) fn fill_own(count: usize, list: &mut [u16])
@@ -18,6 +19,40 @@ pub(crate) fn fill_own(count: usize, list: &mut [u16])
     while i < count {
         list[i] = i as u16;
         i += 1;
+    }
+}
+
+// The entries below a count are those of another list.
+pub(crate) fn copy(count: usize, from: &[u16], list: &mut [u16])
+    requires { ⌜ (count ≤ length (now from)) × (count ≤ length (now list)) ⌝ }
+    ensures { λ _. ⌜ now (list .exit) ≡ upTo count (follower (now (from .entry))) ++ drop count (now (list .entry)) ⌝ }
+{
+    let mut i = 0;
+    while i < count {
+        list[i] = from[i];
+        i += 1;
+    }
+}
+
+// Of a follower: the new one where it is the old one.
+fn instead(old: u16, new: u16, b: u16) -> u16
+    ensures { λ r. ⌜ r ≡ Insertion·instead old new b ⌝ }
+{
+    if b == old {
+        return new;
+    }
+    b
+}
+
+// The stop below a count that has the follower `old` has `new` instead.
+pub(crate) fn replace(count: usize, old: u16, new: u16, list: &mut [u16])
+    requires { ⌜ count ≤ length (now list) ⌝ }
+    ensures { λ _. ⌜ now (list .exit) ≡ upTo count (λ p. Insertion·instead old new (follower (now (list .entry)) p)) ++ drop count (now (list .entry)) ⌝ }
+{
+    let mut p = 0;
+    while p < count {
+        list[p] = instead(old, new, list[p]);
+        p += 1;
     }
 }
 

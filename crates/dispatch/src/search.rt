@@ -1,7 +1,6 @@
 // The search for net costs: Dijkstra's, by the weights, from the new call. It reads leg costs and knows no places.
 use crate::legs;
 use crate::plan;
-use book::Book;
 ghost use mathlib.Core.Bool.{true};
 ghost use mathlib.Core.Path.{_≡_};
 ghost use Prim.Native.Nat.{ℕ, _+_, _-_, _<_, _≤_};
@@ -19,7 +18,7 @@ pub(crate) const BASE: u64 = 1_099_511_627_776;
 const LIFT: i64 = 1_099_512_676_352;
 
 // The rank of a stop that is not settled.
-const OPEN: usize = Book::STOPS;
+const OPEN: usize = legs::ROOM;
 
 // Above every key.
 const FAR: u64 = 9_223_372_036_854_775_808;
@@ -167,9 +166,9 @@ pub(crate) fn search(
     requires { ⌜ SearchGiven cranes new (now plan) (now weights) (now costs) (now totals) (now parents) (now ranks) ⌝ }
     ensures { λ _. ⌜ Searched cranes new (follower (now (plan .entry))) (legAt (now (costs .entry))) (at (now (totals .exit))) (at (now (parents .exit))) (at (now (ranks .exit))) ⌝ }
 {
-    let mut heads = [0; Book::STOPS];
+    let mut heads = [0; legs::ROOM];
     fill_heads(new, plan, weights, costs, &mut heads[..]);
-    let mut stops = [0; Book::STOPS];
+    let mut stops = [0; legs::ROOM];
     plan::fill_own(new, &mut stops[..]);
     begin(new, costs, totals, parents, ranks);
     rounds(

@@ -8,8 +8,7 @@ ghost use mathlib.Core.List.{[]};
 ghost use Prim.Native.Nat.{ℕ, _<_};
 ghost use lib.ListN.{length, getD};
 ghost use Rattle.road.specs.Table.{metresOf, entry};
-ghost use Rattle.workfunction.specs.Serving.{serve};
-ghost use Rattle.dispatch.specs.Insertion.{Roads, Kept, CallGiven, CallServed, DayAnswered, DayGiven};
+ghost use Rattle.dispatch.specs.Insertion.{Roads, Kept, CallGiven, CallServed, DayGiven, DayDone};
 
 // A call that is served: the crane sent, the metres that it drives, the least cost after it.
 pub(crate) struct Step {
@@ -62,7 +61,7 @@ pub(crate) fn serve_all(
     leasts: &mut [u64],
 ) -> u64
     requires { ⌜ DayGiven (entry (metresOf (now table))) (now starts) (now requests) (now stands) (now plan) (now weights) (now costs) (now cranes) (now metres) (now leasts) ⌝ }
-    ensures { λ r. ⌜ ((n : ℕ) (d : ℕ → ℕ → ℕ) → Roads n d (entry (metresOf (now (table .entry)))) → Kept n d (now (starts .entry)) [] (now (stands .entry)) (now (plan .entry)) (now (weights .entry)) (now (costs .entry)) → ((i : ℕ) → i < length (now (requests .entry)) → getD (now (requests .entry)) i 0 < n) → DayAnswered (length (now (requests .entry))) (serve d n (now (starts .entry)) [] (now (stands .entry)) (now (requests .entry))) (now (cranes .entry)) (now (metres .entry)) (now (leasts .entry)) (now (cranes .exit)) (now (metres .exit)) (now (leasts .exit)) r) ⌝ }
+    ensures { λ r. ⌜ ((n : ℕ) (d : ℕ → ℕ → ℕ) → Roads n d (entry (metresOf (now (table .entry)))) → Kept n d (now (starts .entry)) [] (now (stands .entry)) (now (plan .entry)) (now (weights .entry)) (now (costs .entry)) → ((i : ℕ) → i < length (now (requests .entry)) → getD (now (requests .entry)) i 0 < n) → DayDone n d (now (starts .entry)) (now (requests .entry)) (now (stands .entry)) (now (cranes .entry)) (now (metres .entry)) (now (leasts .entry)) (now (stands .exit)) (now (plan .exit)) (now (weights .exit)) (now (costs .exit)) (now (cranes .exit)) (now (metres .exit)) (now (leasts .exit)) r) ⌝ }
 {
     let mut driven = 0;
     let mut i = 0;

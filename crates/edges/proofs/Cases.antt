@@ -17,14 +17,14 @@ use Rattle.workfunction.specs.Lists.{minimum, insertions, permutations, sumBelo
 use Rattle.workfunction.specs.Position.{positions, pairing, distance}
 use Rattle.workfunction.specs.Movement.{contains, movements, cost, work, floor}
 use Rattle.workfunction.specs.Choice.{narrowed, preferred, drive, moveSum, choice, netCost}
-use Rattle.workfunction.specs.Serving.{servedBy, serve}
+use Rattle.workfunction.specs.Serving.{servedBy, serve, standsAfter}
 use Rattle.workfunction.specs.Plan.{mayFollow, follows, followersRule, onceRule, planRule, slackRule, vouchAt, vouchRule, place, legCost}
 use Rattle.book.specs.Book.{weightRule, bookRefusal, freshBook, freshOf}
 use Rattle.dispatch.specs.Commit.{tidied, bookAfter, commitOf}
 use Rattle.dispatch.specs.Costs.{costsOf}
 use Rattle.dispatch.specs.NetCosts.{netsOf}
 use Rattle.dispatch.specs.Quote.{quoteOf}
-use Rattle.dispatch.specs.ServedDay.{servedDay}
+use Rattle.dispatch.specs.ServedDay.{homeOf, servedDay}
 use Rattle.report.specs.Text.{callLine, lastLine, callLines, dayText}
 use Rattle.sheet.specs.Row.{aligned, rowBytes, valueOf, readRow}
 use Rattle.sheet.specs.Sheet.{sheetRows}
@@ -32,5 +32,5 @@ use Rattle.report.specs.Report.{figuresText, sheetText, printOf, sheetPrintOf}
 use Rattle.edges.specs.Cases.{cases, sameBy, agrees, allAgree}
 
 pub cases-agree : allAgree cases ≡ true
-unfolding cases sameBy agrees allAgree upTo within allBelow legCount inOrder metresOf runRefusal decode records countsRefusal placedRefusal dayRefusal dayOf tested readFile tableOf afterLeg after lengthRefusal bareRefusal formRefusal legRefusal stopRefusal craneRefusal callRefusal recordRefusal endRefusal scan flatMap headD minimum insertions permutations sumBelow filter leastBy sections positions pairing distance contains movements cost work floor narrowed preferred drive moveSum choice netCost servedBy serve mayFollow follows followersRule onceRule planRule slackRule vouchAt vouchRule place legCost weightRule bookRefusal freshBook freshOf netsOf quoteOf tidied bookAfter commitOf costsOf servedDay upToDigits decimal callLine lastLine callLines dayText figuresText sheetText printOf sheetPrintOf splice outputOf aligned rowBytes valueOf readRow sheetRows pairAtOf indexOf
+unfolding cases sameBy agrees allAgree upTo within allBelow legCount inOrder metresOf runRefusal decode records countsRefusal placedRefusal dayRefusal dayOf tested readFile tableOf afterLeg after lengthRefusal bareRefusal formRefusal legRefusal stopRefusal craneRefusal callRefusal recordRefusal endRefusal scan flatMap headD minimum insertions permutations sumBelow filter leastBy sections positions pairing distance contains movements cost work floor narrowed preferred drive moveSum choice netCost servedBy serve standsAfter mayFollow follows followersRule onceRule planRule slackRule vouchAt vouchRule place legCost weightRule bookRefusal freshBook freshOf netsOf quoteOf tidied bookAfter commitOf costsOf homeOf servedDay upToDigits decimal callLine lastLine callLines dayText figuresText sheetText printOf sheetPrintOf splice outputOf aligned rowBytes valueOf readRow sheetRows pairAtOf indexOf
 cases-agree = refl

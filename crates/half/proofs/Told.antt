@@ -2,7 +2,7 @@
 -- half is what is told over the square, whatever the other inputs are, refused ones included. Assumes nothing.
 use Prim.Native.Nat.{ℕ, zero, suc, _<_, suc-le-suc}
 use mathlib.Core.Bool.{true}
-use mathlib.Core.List.{List, [], _++_}
+use mathlib.Core.List.{List, [], _++_, List·Memᴰ}
 use mathlib.Core.Path.{_≡_, refl, sym, ap, ap₂, _∙_}
 use lib.IntN.{ℤ, pos}
 use lib.ListN.{length}
@@ -16,7 +16,8 @@ use Rattle.dayfile.specs.File.{dayBytes, writeFile}
 use Rattle.dayfile.specs.Legs.{leg}
 use Rattle.dayfile.proofs.Limits.{Tested, day-placed, day-tested}
 use Rattle.workfunction.specs.Position.{Position}
-use Rattle.workfunction.proofs.Same.{work-same, floor-same, workThen-same, drive-same, netCost-same, served-same, serve-same}
+use Rattle.workfunction.proofs.Serving.{stands-placed}
+use Rattle.workfunction.proofs.Same.{distance-same, work-same, floor-same, workThen-same, drive-same, netCost-same, served-same, serve-same, standsAfter-same}
 use Rattle.book.specs.declared.Book.{Book}
 use Rattle.book.specs.Book.{startsOf, standsOf, requestsOf, stopsOf, planRefusal, bookDay, bookRefusal, freshOf}
 use Rattle.book.proofs.Places.{same-costs}
@@ -26,7 +27,7 @@ use Rattle.dispatch.specs.Commit.{commitRefusal, commitOf}
 use Rattle.dispatch.specs.Costs.{costsOf}
 use Rattle.dispatch.specs.NetCosts.{netsOf}
 use Rattle.dispatch.specs.Quote.{quoteRefusal, quoteOf}
-use Rattle.dispatch.specs.ServedDay.{servedDay}
+use Rattle.dispatch.specs.ServedDay.{homeOf, servedDay}
 use Rattle.dispatch.proofs.Called.{Called, quote-called, commit-called}
 use Rattle.sheet.specs.Sheet.{sheetRows, sheetOf}
 use Rattle.half.specs.Square.{Square, squareMetres, squareRefusal, halfOf}
@@ -75,15 +76,19 @@ module _ (day : Day) (s : Square) (h : squareRefusal (day .places) s ≡ 0) wher
 
   -- the served day
   pub half-served : servedDay day (halfOf (day .places) s) ≡ squareServed day s
-  unfolding servedDay squareServed
+  unfolding servedDay homeOf squareServed
   half-served =
       told-alike _≡_ _ _ half-day
       (λ z.
       let tested : Tested day (halfOf (day .places) s) = day-tested day (halfOf (day .places) s) z in
       let starts = position (day .places) (dayStarts day) (tested .starts) in
-      let all = serve-same (half-distance (day .places) s h) starts [] starts (dayRequests day) (λ r. placed (day .places) (dayRequests day) (tested .requests)) in
+      let asked : (r : ℕ) → List·Memᴰ r (dayRequests day) → r < day .places = λ r. placed (day .places) (dayRequests day) (tested .requests) in
+      let all = serve-same (half-distance (day .places) s h) starts [] starts (dayRequests day) asked in
+      let stands = standsAfter-same (half-distance (day .places) s h) starts [] starts (dayRequests day) asked in
+      let last = stands-placed (squareMetres s) (dayStarts day) [] (dayStarts day) (dayRequests day) starts asked in
+      let home = distance-same (half-distance (day .places) s h) last starts in
       let floor = floor-same (half-distance (day .places) s h) starts (dayRequests day) in
-      rw (all, floor))
+      rw (all, stands, home, floor))
       (λ k. refl)
 
   -- its sheet

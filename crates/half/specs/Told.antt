@@ -13,7 +13,8 @@ use Rattle.dayfile.specs.File.{Output, outputOf, dayBytes}
 use Rattle.workfunction.specs.Choice.{moved, drive, netCost}
 use Rattle.workfunction.specs.Movement.{work, floor}
 use Rattle.workfunction.specs.Plan.{legCost}
-use Rattle.workfunction.specs.Serving.{served, serve}
+use Rattle.workfunction.specs.Position.{distance}
+use Rattle.workfunction.specs.Serving.{served, serve, standsAfter}
 use Rattle.book.specs.declared.Book.{Book}
 use Rattle.book.specs.Book.{startsOf, standsOf, requestsOf, drivenOf, stopsOf, planRefusal, weightsRefusal, drivenRefusal, bookDay, freshBook, emptyBook, Opened}
 use Rattle.dispatch.specs.Commit.{askedCraneRefusal, tidied, bookAfter, Committed}
@@ -98,6 +99,7 @@ unfoldable pub squareServed : Day → Square → DayFigures
 squareServed day s =
     unlessRefused (squareDayRefusal day s)
     (allFigures (day .calls) (serve (squareMetres s) (day .places) (dayStarts day) [] (dayStarts day) (dayRequests day))
+    (distance (squareMetres s) (standsAfter (squareMetres s) (day .places) (dayStarts day) [] (dayStarts day) (dayRequests day)) (dayStarts day))
     (floor (squareMetres s) (day .places) (dayStarts day) (dayRequests day)))
     noFigures
 

@@ -40,7 +40,7 @@ module _ (s : DayFigures) where
   figures-fit : s .calls ≤ mostCalls → length (figuresText s) ≤ 32768
   unfolding figuresText
   figures-fit calls =
-      either-told (λ (text : List ℕ). length text ≤ 32768) (s .number) _ _ (λ e. day-fits _ _ _ (s .calls) (s .driven) (s .floor) calls)
+      either-told (λ (text : List ℕ). length text ≤ 32768) (s .number) _ _ (λ e. day-fits _ _ _ (s .calls) (s .driven) (s .home) (s .floor) calls)
       (λ n. omega (arith, length-refusedLine n 0))
 
   pub day-refused : (n : ℕ) {old now : List ℕ} {r : ℕ} → n ≡ s .number → (s .number ≡ 0 → ⊥) → Put (refusedLine n 0) old 0 now r
@@ -51,10 +51,10 @@ module _ (s : DayFigures) where
   -- the last line behind those of the calls
   pub day-put : {old mid now : List ℕ} {x y : ℕ} → s .number ≡ 0 → s .calls ≤ mostCalls → 32768 ≤ length old
       → Put (callLines (s .calls) (λ i. getD (s .cranes) i 0) (λ i. getD (s .metres) i 0) (λ i. getD (s .leasts) i 0)) old 0 mid x
-      → Put (lastLine (s .driven) (s .floor)) mid x now y → Put (figuresText s) old 0 now y
+      → Put (lastLine (s .driven) (s .home) (s .floor)) mid x now y → Put (figuresText s) old 0 now y
   unfolding figuresText dayText
   day-put e calls long p q =
-      rw e (put-on p q (omega (arith, q .behind, calls-most _ _ _ _ p, length-lastLine (s .driven) (s .floor))))
+      rw e (put-on p q (omega (arith, q .behind, calls-most _ _ _ _ p, length-lastLine (s .driven) (s .home) (s .floor))))
 
 -- ---- a sheet that was written
 

@@ -14,11 +14,11 @@ use Rattle.workfunction.specs.Serving.{Served, serve}
 use Rattle.workfunction.proofs.Serving.{serve-at}
 use Rattle.workfunction.proofs.Sums.{sum-same}
 use Rattle.dispatch.specs.Quote.{unserved}
-use Rattle.dispatch.specs.ServedDay.{nth, servedDay}
-use Rattle.dispatch.proofs.Promise.{day-least, day-floor}
+use Rattle.dispatch.specs.ServedDay.{nth, homeOf, servedDay}
+use Rattle.dispatch.proofs.Promise.{day-least, day-floor, day-floor-driven}
 use Rattle.sheet.specs.Sheet.{rowOf, sheetBytes}
 use Rattle.sheet.proofs.Promise.{sheet-rows, sheet-length, sheet-back}
-use Rattle.report.specs.Promise.{day, d, starts, calls, told, driven, lowest, PrintProved, SheetProved}
+use Rattle.report.specs.Promise.{day, d, starts, calls, told, driven, homeward, lowest, PrintProved, SheetProved}
 use Rattle.report.specs.Report.{figuresText, printOf, sheetText, sheetPrintOf}
 use Rattle.report.specs.Text.{callLines, lastLine, dayText}
 
@@ -58,11 +58,12 @@ module _ (file : List ℕ) (accepted : readFile file .number ≡ 0) where
     figure-is figure = getD-padded mostCalls (day file .calls) _ 0 0 i called ∙ ap figure told-is
 
   lines-are : printOf file
-      ≡ dayText (day file .calls) (λ i. told file i .crane) (λ i. told file i .metres) (λ i. told file i .least) (driven file) (lowest file)
-  unfolding printOf figuresText servedDay dayText all
+      ≡ dayText (day file .calls) (λ i. told file i .crane) (λ i. told file i .metres) (λ i. told file i .least) (driven file)
+      (homeward file) (lowest file)
+  unfolding printOf figuresText servedDay homeOf dayText all
   lines-are =
       rw (accepted, none)
-      (ap₂ (λ lines sum. lines ++ lastLine sum (lowest file))
+      (ap₂ (λ lines sum. lines ++ lastLine sum (homeward file) (lowest file))
       (callLines-same (day file .calls) (λ i l. figure-is i l (λ s. s .crane)) (λ i l. figure-is i l (λ s. s .metres)) (λ i l. figure-is i l (λ s. s .least)))
       (sum-same (day file .calls) _ _ (λ i l. ap (λ (s : Served). s .metres) (told-is i l))))
 
@@ -74,12 +75,21 @@ module _ (file : List ℕ) (accepted : readFile file .number ≡ 0) where
   unfolding servedDay
   floor-told = rw none
 
+  home-told : servedDay (day file) (readTable file) .home ≡ homeward file
+  unfolding servedDay homeOf
+  home-told = rw none
+
+  driven-told : servedDay (day file) (readTable file) .driven ≡ driven file
+  unfolding servedDay all
+  driven-told = rw none (sum-same (day file .calls) _ _ (λ i l. ap (λ (s : Served). s .metres) (told-is i l)))
+
   -- for every accepted file
   pub print-proved : PrintProved file
   print-proved = record {
     lines = lines-are;
     least = λ i called. rw (least-told i called) at (day-least (day file) (readTable file) arrays none i called);
     floored = rw floor-told at (day-floor (day file) (readTable file) arrays none);
+    above = rw (floor-told, driven-told, home-told) at (day-floor-driven (day file) (readTable file) arrays none);
   }
 
   sheet-is : sheetPrintOf file ≡ sheetBytes (day file) (readTable file)

@@ -18,7 +18,8 @@ use Rattle.report.specs.Text.{refusedLine, dayText}
 unfoldable pub figuresText : DayFigures → List ℕ
 figuresText s =
     unlessRefused (s .number)
-    (dayText (s .calls) (λ i. getD (s .cranes) i 0) (λ i. getD (s .metres) i 0) (λ i. getD (s .leasts) i 0) (s .driven) (s .floor))
+    (dayText (s .calls) (λ i. getD (s .cranes) i 0) (λ i. getD (s .metres) i 0) (λ i. getD (s .leasts) i 0) (s .driven) (s .home)
+    (s .floor))
     (λ n. refusedLine n 0)
 
 -- the sheet of a day, as text. Of a refused day the line has record 0 too

@@ -15,10 +15,12 @@ callLine i crane metres least =
     field (32 ∷ 109 ∷ 101 ∷ 116 ∷ 114 ∷ 101 ∷ 115 ∷ 32 ∷ []) metres ++ field (32 ∷ 108 ∷ 101 ∷ 97 ∷ 115 ∷ 116 ∷ 32 ∷ []) least ++
     (10 ∷ [])
 
--- "the last line has the sum of the drives and the floor": behind the words `driven ` and ` floor `
-unfoldable pub lastLine : ℕ → ℕ → List ℕ
-lastLine driven floor =
-    field (100 ∷ 114 ∷ 105 ∷ 118 ∷ 101 ∷ 110 ∷ 32 ∷ []) driven ++ field (32 ∷ 102 ∷ 108 ∷ 111 ∷ 111 ∷ 114 ∷ 32 ∷ []) floor ++ (10 ∷ [])
+-- "the last line has the sum of the drives and the floor", and paper 8's "way home" between them: behind the words `driven `, ` home ` and
+-- ` floor `
+unfoldable pub lastLine : ℕ → ℕ → ℕ → List ℕ
+lastLine driven home floor =
+    field (100 ∷ 114 ∷ 105 ∷ 118 ∷ 101 ∷ 110 ∷ 32 ∷ []) driven ++ field (32 ∷ 104 ∷ 111 ∷ 109 ∷ 101 ∷ 32 ∷ []) home ++
+    field (32 ∷ 102 ∷ 108 ∷ 111 ∷ 111 ∷ 114 ∷ 32 ∷ []) floor ++ (10 ∷ [])
 
 -- "A refusal writes one line, `refused N record I`."
 unfoldable pub refusedLine : ℕ → ℕ → List ℕ
@@ -32,5 +34,5 @@ callLines zero f g h = []
 callLines (suc m) f g h = callLines m f g h ++ callLine m (f m) (g m) (h m)
 
 -- the print of a served day: "each call line", then "the last line"
-unfoldable pub dayText : ℕ → (ℕ → ℕ) → (ℕ → ℕ) → (ℕ → ℕ) → ℕ → ℕ → List ℕ
-dayText m f g h driven floor = callLines m f g h ++ lastLine driven floor
+unfoldable pub dayText : ℕ → (ℕ → ℕ) → (ℕ → ℕ) → (ℕ → ℕ) → ℕ → ℕ → ℕ → List ℕ
+dayText m f g h driven home floor = callLines m f g h ++ lastLine driven home floor

@@ -52,7 +52,7 @@ fn put_lines(day: Day, table: &[u32], out: &mut [u8]) -> usize
     let leasts = served.leasts;
     let calls = served.calls;
     let next = text::put_calls(calls, &cranes[..], &metres[..], &leasts[..], out);
-    text::put_last(served.driven, served.floor, out, next)
+    text::put_last(served.driven, served.home, served.floor, out, next)
 }
 
 // The line of a day's refusal, or its sheet.

@@ -72,12 +72,13 @@ pub(crate) fn put_calls(
 }
 
 // The line behind those of the calls.
-pub(crate) fn put_last(driven: u64, floor: u64, out: &mut [u8], at: usize) -> usize
-    requires { ⌜ at + 55 ≤ length (now out) ⌝ }
-    ensures { λ r. ⌜ Put (lastLine driven floor) (now (out .entry)) at (now (out .exit)) r ⌝ }
+pub(crate) fn put_last(driven: u64, home: u64, floor: u64, out: &mut [u8], at: usize) -> usize
+    requires { ⌜ at + 81 ≤ length (now out) ⌝ }
+    ensures { λ r. ⌜ Put (lastLine driven home floor) (now (out .entry)) at (now (out .exit)) r ⌝ }
 {
     let summed = put_field(b"driven ", driven, out, at);
-    let told = put_field(b" floor ", floor, out, summed);
+    let back = put_field(b" home ", home, out, summed);
+    let told = put_field(b" floor ", floor, out, back);
     put(b"\n", out, told)
 }
 

@@ -14,7 +14,7 @@ use Rattle.workfunction.specs.Position.{positions, pairing, distance}
 use Rattle.workfunction.specs.Movement.{contains, movements, cost, work, floor}
 use Rattle.workfunction.specs.Choice.{narrowed, preferred, drive, moveSum, choice, netCost}
 use Rattle.workfunction.specs.Serving.{Served, servedBy, serve}
-use Rattle.workfunction.specs.Plan.{mayFollow, follows, followersRule, onceRule, planRule, slackRule, vouchAt, vouchRule, planCost, place, legCost, freeCost}
+use Rattle.workfunction.specs.Plan.{mayFollow, follows, followersRule, onceRule, planRule, slackRule, vouchAt, vouchRule, planCost, place, legCost, plans as planLists, leastPlan}
 
 -- three places, by the legs (0,1), (0,2), (1,2)
 abbrev three : ℕ → ℕ → ℕ → List (List ℕ)
@@ -39,13 +39,13 @@ pub data Day : Type 0 where
 unfoldable pub days : List Day
 days =
     -- at the last call crane 1 is nearer, crane 0 goes, and the least falls
-    day (three 3 5 4) (2 ∷ 1 ∷ []) (0 ∷ 1 ∷ 0 ∷ []) (served 1 3 3 ∷ served 1 3 6 ∷ served 0 5 5 ∷ []) 5 ∷
+    day (three 3 5 4) (2 ∷ 1 ∷ []) (0 ∷ 1 ∷ 0 ∷ []) (served 1 3 3 ∷ served 1 3 6 ∷ served 0 5 5 ∷ []) 10 ∷
     -- a day without calls
     day (three 10 20 15) (0 ∷ 2 ∷ []) [] [] 0 ∷
     -- at the last call both cranes give 4, and crane 1 drives less
-    day (three 1 2 2) (2 ∷ 0 ∷ []) (1 ∷ 0 ∷ 1 ∷ []) (served 1 1 1 ∷ served 1 1 2 ∷ served 1 1 3 ∷ []) 2 ∷
+    day (three 1 2 2) (2 ∷ 0 ∷ []) (1 ∷ 0 ∷ 1 ∷ []) (served 1 1 1 ∷ served 1 1 2 ∷ served 1 1 3 ∷ []) 4 ∷
     -- the same with the last call at the other gate
-    day gates (2 ∷ 0 ∷ []) (1 ∷ 0 ∷ 3 ∷ []) (served 1 1 1 ∷ served 1 1 2 ∷ served 1 1 3 ∷ []) 2 ∷
+    day gates (2 ∷ 0 ∷ []) (1 ∷ 0 ∷ 3 ∷ []) (served 1 1 1 ∷ served 1 1 2 ∷ served 1 1 3 ∷ []) 4 ∷
     -- a call at a gate: crane 0 stands at the other gate, and crane 1 at the very place; both give 0 and drive 0
     day (three 0 5 5) (1 ∷ 0 ∷ []) (0 ∷ []) (served 0 0 0 ∷ []) 0 ∷
     []
@@ -128,9 +128,8 @@ witnesses =
     -- case A after its second call and after its last
     weights (legs (1 ∷ 0 ∷ []) (0 ∷ 2 ∷ [])) 2 (2 ∷ 1 ∷ 3 ∷ 0 ∷ []) (minus 10 ∷ minus 5 ∷ pos 0 ∷ minus 10 ∷ []) 20 true ∷
     weights (legs (1 ∷ 0 ∷ 1 ∷ []) (0 ∷ 1 ∷ [])) 2 (3 ∷ 2 ∷ 4 ∷ 0 ∷ 1 ∷ []) (pos 0 ∷ pos 0 ∷ pos 0 ∷ pos 0 ∷ pos 0 ∷ []) 15 true ∷
-    -- its floor
-    weights (freeCost (metres (three 10 20 15)) (0 ∷ 2 ∷ []) (1 ∷ 0 ∷ 1 ∷ [])) 2 (3 ∷ 2 ∷ 4 ∷ 0 ∷ 1 ∷ [])
-    (minus 15 ∷ minus 15 ∷ pos 0 ∷ pos 0 ∷ minus 5 ∷ []) 15 true ∷
+    -- its floor: the ends are the starts
+    weights (legs (1 ∷ 0 ∷ 1 ∷ []) (0 ∷ 2 ∷ [])) 2 (3 ∷ 2 ∷ 4 ∷ 0 ∷ 1 ∷ []) (minus 20 ∷ minus 15 ∷ pos 0 ∷ pos 0 ∷ minus 10 ∷ []) 30 true ∷
     -- no calls, and cranes that have changed places: not least, and only the stands can tell
     weights (legs [] (2 ∷ 0 ∷ [])) 2 (0 ∷ 1 ∷ []) (pos 0 ∷ pos 0 ∷ []) 40 false ∷
     []
@@ -142,5 +141,17 @@ unfoldable pub weighed : Weights → ℕ × Bool
 weighed (weights _ _ _ _ cost rule) = (cost, rule)
 
 pub witnesses-agree : map vouched witnesses ≡ map weighed witnesses
-unfolding witnesses vouched weighed planCost vouchRule vouchAt slackRule mayFollow legCost freeCost place sumBelow allBelow
+unfolding witnesses vouched weighed planCost vouchRule vouchAt slackRule mayFollow legCost place sumBelow allBelow
 witnesses-agree = refl
+
+-- ---- the least of all plans
+
+-- one crane and one call: the call follows the start, and the stand the call
+pub all-plans : planLists 1 2 ≡ (1 ∷ 0 ∷ []) ∷ []
+unfolding planLists planRule followersRule onceRule mayFollow follows sumBelow allBelow upTo filter sections flatMap
+all-plans = refl
+
+-- case A with its ends at the starts, and at its last stands
+pub least-plans : leastPlan 2 5 (legs (1 ∷ 0 ∷ 1 ∷ []) (0 ∷ 2 ∷ [])) ∷ leastPlan 2 5 (legs (1 ∷ 0 ∷ 1 ∷ []) (0 ∷ 1 ∷ [])) ∷ [] ≡ 30 ∷ 15 ∷ []
+unfolding leastPlan planLists planRule followersRule onceRule mayFollow follows sumBelow allBelow upTo filter sections flatMap minimum planCost legCost place
+least-plans = refl

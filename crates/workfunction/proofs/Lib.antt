@@ -11,6 +11,8 @@ pub mod Stops
 pub mod Lower
 pub mod Upper
 pub mod Witness
+pub mod Planned
+pub mod Least
 pub mod NetCost
 pub mod Serving
 pub mod Same

@@ -1,7 +1,7 @@
 -- The lower bound: weights that vouch for a plan bound the cost of every movement from below by the plan's cost, several
 -- cranes moving at a time included. Assumes nothing.
 use Prim.Native.Nat.{ℕ, suc, _+_, _<_, _≤_, zero-le, suc-le-suc}
-use mathlib.Core.List.{List, [], _∷_, List·Memᴰ, List·Memᴰ·head, List·Memᴰ·tail, List·Permᴰ, Forall₂·nil, Forall₂·cons}
+use mathlib.Core.List.{List, [], _∷_, List·Memᴰ, List·Memᴰ·head, List·Memᴰ·tail, Forall₂·nil, Forall₂·cons}
 use mathlib.Core.Logic.{inl, inr}
 use mathlib.Core.Path.{_≡_, refl, sym, ap, _∙_}
 use lib.ListN.{length, getD}
@@ -9,12 +9,12 @@ use native.Mathlib.Nat.{suc-inj, le-refl, add-zero, zero-add, suc-add, add-suc}
 use native.Mathlib.Omega.{arith}
 use Rattle.base.specs.Metric.{Metric}
 use Rattle.workfunction.specs.Lists.{sumBelow}
-use Rattle.workfunction.specs.Position.{Position, pairing, distance}
+use Rattle.workfunction.specs.Position.{Position, pairing}
 use Rattle.workfunction.specs.Movement.{Instance, Movement, cost}
 use Rattle.workfunction.specs.Plan.{planCost, stops, place}
 use Rattle.workfunction.proofs.Plan.{Plan, Vouched, followers-sum}
-use Rattle.workfunction.proofs.Position.{pairing-set, pairing-map, stepped, position-order, together, unmoved}
-use Rattle.workfunction.proofs.Stops.{Run, over, then, run-calls, left, left-all, sum-left, tags-within, tags-set, firstTags, first-tags}
+use Rattle.workfunction.proofs.Position.{pairing-set, pairing-map, position-order, together, unmoved}
+use Rattle.workfunction.proofs.Stops.{Run, over, then, run-calls, left, left-all, sum-left, tags-within, tags-set, along, firstTags, first-tags}
 use Rattle.workfunction.proofs.Stops.{first-places, all-stops, stop-placed}
 use Rattle.workfunction.proofs.Sums.{total, total-order, total-set, slot-of, entry-in}
 
@@ -40,13 +40,6 @@ module _ {n : ℕ} {d : ℕ → ℕ → ℕ} (laws : Metric n d) {k N : ℕ} (st
   abbrev way : ℕ → ℕ → ℕ
   way t p = d (stop t) p
 
-  -- the tags taken along to the next position
-  along : (T P Q : List ℕ) → Position N k T → Position n k P → Position n k Q
-      → (U : List ℕ) × List·Permᴰ T U × (pairing way U Q ≤ pairing way T P + distance d P Q)
-  along T P Q tags at to =
-      stepped d way T P Q (together tags at) (together at to)
-      (λ t p q m l r. laws .triangle (stop t) p q (on t (tags .placed m)) (at .placed l) (to .placed r))
-
   -- over the calls that are left, and the ends
   lower : {i : ℕ} {rs T P : List ℕ} {M : List (List ℕ)} → Run stop i rs → Movement n k rs M → Position i k T → Position n k P
       → k ≤ i → i + length rs ≡ N
@@ -54,7 +47,7 @@ module _ {n : ℕ} {d : ℕ → ℕ → ℕ} (laws : Metric n d) {k N : ℕ} (st
   unfolding left cost
   lower {T = T} {P} over Forall₂·nil tags at call all =
       let within : Position N k T = tags-within (omega arith) tags in
-      let to = along T P C within at c in
+      let to = along laws stop on T P C within at c in
       let last : Position N k (to .0) = position-order (to .1) within in
       let slots = ended way a b y 0 (to .0) C (together last c)
       (λ t e m lt. rw (zero-add e) (ends t e (last .placed m) (rw (← c .cranes) lt)))
@@ -66,7 +59,7 @@ module _ {n : ℕ} {d : ℕ → ℕ → ℕ} (laws : Metric n d) {k N : ℕ} (st
       omega arith
   lower {i} {T = T} {P} (then {rs = rs} here run) (Forall₂·cons {b = Q} h more) tags at call all =
       let now : i < N = omega arith in
-      let to = along T P Q (tags-within (omega arith) tags) at (h .0) in
+      let to = along laws stop on T P Q (tags-within (omega arith) tags) at (h .0) in
       let U = to .0 in
       let moved : Position i k U = position-order (to .1) tags in
       let slot = slot-of (h .1) in

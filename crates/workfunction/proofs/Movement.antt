@@ -1,5 +1,5 @@
 -- The work function: the least cost of all movements to an end, the same for every order of the end, and no more at another end
--- than at one plus the distance between them. The floor likewise, over all ends. Assumes nothing.
+-- than at one plus the distance between them. The floor is its value at the starts. Assumes nothing.
 use Prim.Native.Nat.{ℕ, zero, suc, _+_, _<_, _≤_, zero-le}
 use mathlib.Core.Bool.{Bool, true, false, _||_, or-true, false≢true}
 use mathlib.Core.List.{List, [], _∷_, _++_, map, List·Permᴰ, Permᴰ·symm, Forall₂, Forall₂·nil, Forall₂·cons}
@@ -15,7 +15,7 @@ use native.Mathlib.Omega.{arith}
 use Rattle.base.specs.Metric.{Metric}
 use Rattle.workfunction.specs.Lists.{minimum, filter, sections}
 use Rattle.workfunction.specs.Position.{Position, positions, distance}
-use Rattle.workfunction.specs.Movement.{Instance, Serves, Movement, contains, movements, cost, LeastTo, LeastOfAll, work, floor}
+use Rattle.workfunction.specs.Movement.{Instance, Serves, Movement, contains, movements, cost, LeastTo, work, floor}
 use Rattle.workfunction.proofs.Lists.{minimum-least, filter-in, in-filter, sections-in, in-sections}
 use Rattle.workfunction.proofs.Position.{distance-right, distance-self, distance-triangle, positions-in, in-positions}
 
@@ -111,17 +111,16 @@ module _ (d : ℕ → ℕ → ℕ) {n : ℕ} {starts calls : List ℕ} (day : In
       let best = work-least C .attained in
       rw (← best .2) (le-trans (work-least X .below (best .0) (best .1)) (cost-on laws (day .started) c x (best .1)))
 
-  -- the floor is the least cost of all movements, whatever their ends
-  pub floor-least : LeastOfAll d n starts calls (floor d n starts calls)
+  -- the floor is the least cost of all movements that end at the starts
+  pub floor-least : LeastTo d n starts calls starts (floor d n starts calls)
   unfolding floor
-  floor-least =
-      let least = minimum-least (work d n starts calls) (positions n (length starts)) (positions-in n (day .started)) in
-      let end = least .attained in
-      let best = work-least (end .0) .attained in
-      record {
-        attained = ((best .0, end .0), (best .1, in-positions n (length starts) (end .1)), best .2 ∙ end .2);
-        below = λ m h. le-trans (least .below (m .1) (positions-in n (h .1))) (work-least (m .1) .below (m .0) (h .0));
-      }
+  floor-least = work-least starts
+
+  -- and no more than w at an end plus the way from there to the starts
+  pub floor-on : Metric n d → {C : List ℕ} → Position n (length starts) C
+      → floor d n starts calls ≤ work d n starts calls C + distance d C starts
+  unfolding floor
+  floor-on laws c = work-on laws c (day .started)
 
 -- ---- no calls
 
@@ -131,9 +130,8 @@ unfolding work movements sections minimum cost
 work-none d n starts C = refl
 
 pub floor-none : {n : ℕ} {d : ℕ → ℕ → ℕ} {starts : List ℕ} → Metric n d → Instance n starts [] → floor d n starts [] ≡ 0
-unfolding cost
-floor-none {d = d} {starts} laws day =
-    le-antisymm (rw (← distance-self laws (day .started)) (floor-least d day .below ([], starts) (Forall₂·nil, day .started))) zero-le
+unfolding floor
+floor-none {n} {d} {starts} laws day = work-none d n starts starts ∙ distance-self laws (day .started)
 
 -- ---- one call more
 

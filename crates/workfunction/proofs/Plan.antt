@@ -4,7 +4,7 @@ use Prim.Native.Nat.{ℕ, _+_, _-_, _<_, _≤_}
 use mathlib.Core.Bool.{Bool, true, false, cond, _&&_, _||_, and-eq-true-iff, or-true}
 use mathlib.Core.Logic.{_⊎_, inl, inr}
 use mathlib.Core.Path.{_≡_, refl, sym, _∙_}
-use borrow.Author.Tests.{ltb-true, lt-ltb, le-ltb, eqb-true, eq-eqb}
+use borrow.Author.Tests.{ltb-true, lt-ltb, le-ltb, eqb-true, eq-eqb, ne-eqb}
 use lib.Dec.{ltb, eqb}
 use lib.IntN.{ℤ, pos, _-ℤ_}
 use native.Mathlib.Decide.{ℕ-discrete}
@@ -33,6 +33,19 @@ follows-may k p b h = go (ltb b k) refl h
     go : (t : Bool) → ltb b k ≡ t → (t || ltb p b) ≡ true → (b < k) ⊎ (p < b)
     go true e h = inl (ltb-true b k e)
     go false e h = inr (ltb-true p b h)
+
+-- whether b follows p
+pub follows-at : (f : ℕ → ℕ) (b p : ℕ) → f p ≡ b → follows f b p ≡ 1
+unfolding follows
+follows-at f b p e = rw (eq-eqb (f p) b e)
+
+pub follows-not : (f : ℕ → ℕ) (b p : ℕ) → (f p ≡ b → ⊥) → follows f b p ≡ 0
+unfolding follows
+follows-not f b p n = rw (ne-eqb (f p) b n)
+
+pub same-follows : (f g : ℕ → ℕ) (b p : ℕ) → f p ≡ g p → follows f b p ≡ follows g b p
+unfolding follows
+same-follows f g b p e = rw e
 
 -- a plan, by its facts
 pub record Plan (k N : ℕ) (f : ℕ → ℕ) : Type 0 where

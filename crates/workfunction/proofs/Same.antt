@@ -9,13 +9,13 @@ use native.Mathlib.Decide.{decLt}
 use native.Mathlib.Nat.{ℕ-set}
 use native.Mathlib.Omega.{arith}
 use Rattle.workfunction.specs.Lists.{minimum, permutations}
-use Rattle.workfunction.specs.Position.{Position, positions, pairing, distance}
+use Rattle.workfunction.specs.Position.{Position, pairing, distance}
 use Rattle.workfunction.specs.Movement.{Movement, movements, cost, work, floor}
 use Rattle.workfunction.specs.Choice.{moved, drive, workThen, moveSum, netCost, choice}
-use Rattle.workfunction.specs.Serving.{servedBy, served, serve}
+use Rattle.workfunction.specs.Serving.{servedBy, served, serve, standsAfter}
 use Rattle.workfunction.proofs.Lists.{in-permutations}
 use Rattle.workfunction.proofs.Movement.{in-movements}
-use Rattle.workfunction.proofs.Position.{pairing-same, position-order, position-set, in-positions}
+use Rattle.workfunction.proofs.Position.{pairing-same, position-order, position-set}
 use Rattle.workfunction.proofs.Sums.{entry-in}
 
 -- rules that agree on the elements of a list have the same minimum
@@ -53,12 +53,10 @@ module _ {n : ℕ} {d e : ℕ → ℕ → ℕ} (same : (u v : ℕ) → u < n →
         minimum-same (λ M. cost d starts M C) (λ M. cost e starts M C) (movements n (length starts) calls)
         (λ M m. cost-same started c (in-movements n (length starts) calls m))
 
-    -- the smallest w
+    -- w of the starts
     pub floor-same : (calls : List ℕ) → floor d n starts calls ≡ floor e n starts calls
     unfolding floor
-    floor-same calls =
-        minimum-same (work d n starts calls) (work e n starts calls) (positions n (length starts))
-        (λ C m. work-same calls (in-positions n (length starts) m))
+    floor-same calls = work-same calls started
 
     module _ (calls : List ℕ) {k : ℕ} {stands : List ℕ} (standing : Position n k stands) {r : ℕ} (asked : r < n) where
       -- the way of a crane to the call
@@ -107,3 +105,13 @@ module _ {n : ℕ} {d e : ℕ → ℕ → ℕ} (same : (u v : ℕ) → u < n →
         let there = position-set stands (choice e n starts calls stands r) r here standing in
         let rest = serve-same (calls ++ (r ∷ [])) there rs (λ q m. asked q (List·Memᴰ·tail m)) in
         rw (served-same calls standing here, choice-same calls standing here, rest)
+
+    -- and the stands then
+    pub standsAfter-same : (calls : List ℕ) {k : ℕ} {stands : List ℕ} → Position n k stands → (rs : List ℕ) → ((r : ℕ) → List·Memᴰ r rs → r < n)
+        → standsAfter d n starts calls stands rs ≡ standsAfter e n starts calls stands rs
+    unfolding standsAfter
+    standsAfter-same calls standing [] asked = refl
+    standsAfter-same calls {stands = stands} standing (r ∷ rs) asked =
+        let here : r < n = asked r (List·Memᴰ·head refl) in
+        let there = position-set stands (choice e n starts calls stands r) r here standing in
+        rw (choice-same calls standing here) (standsAfter-same (calls ++ (r ∷ [])) there rs (λ q m. asked q (List·Memᴰ·tail m)))

@@ -10,6 +10,7 @@ use native.Mathlib.Nat.{add-zero, not-suc-le-zero, le-of-suc-le-suc, one-mul, su
 use native.Mathlib.Omega.{arith}
 use Rattle.base.specs.Metric.{Metric}
 use Rattle.base.proofs.Signed.{difference-le}
+use Rattle.workfunction.specs.Lists.{sumBelow}
 use Rattle.workfunction.specs.Position.{Position}
 use Rattle.workfunction.specs.Movement.{Instance, work}
 use Rattle.workfunction.specs.Choice.{moved, drive, netCost, choice}
@@ -17,7 +18,7 @@ use Rattle.workfunction.specs.Serving.{Served, servedBy, served, serve, 
 use Rattle.workfunction.proofs.Choice.{choice-below}
 use Rattle.workfunction.proofs.Movement.{work-on, work-served, instance-then}
 use Rattle.workfunction.proofs.Position.{distance-moved, position-set}
-use Rattle.workfunction.proofs.Sums.{entry-in, set-in}
+use Rattle.workfunction.proofs.Sums.{entry-in, set-in, sum-first}
 
 module _ (d : ℕ → ℕ → ℕ) (n : ℕ) (starts : List ℕ) (none : Served) where
   pub serve-at : (calls stands rs : List ℕ) (i : ℕ) → i < length rs
@@ -63,6 +64,16 @@ module _ (d : ℕ → ℕ → ℕ) (n : ℕ) (starts : List ℕ) where
       ap (λ (l : List Served). served d n starts calls stands q ∷ l)
       (serve-then (calls ++ (q ∷ [])) (moved stands q (choice d n starts calls stands q)) rs r ∙ rw (append-assoc calls (q ∷ []) rs))
 
+-- the stands after some calls are a position
+pub stands-placed : {n k : ℕ} (d : ℕ → ℕ → ℕ) (starts calls stands rs : List ℕ) → Position n k stands → ((r : ℕ) → List·Memᴰ r rs → r < n)
+    → Position n k (standsAfter d n starts calls stands rs)
+unfolding standsAfter
+stands-placed d starts calls stands [] standing asked = standing
+stands-placed {n} d starts calls stands (r ∷ rs) standing asked =
+    let s = choice d n starts calls stands r in
+    stands-placed d starts (calls ++ (r ∷ [])) (moved stands r s) rs (position-set stands s r (asked r (List·Memᴰ·head refl)) standing)
+    (λ q m. asked q (List·Memᴰ·tail m))
+
 -- ---- how large the figures become
 
 -- the figures of a call: one of k cranes, a drive no longer than the longest, and a least of no more than most
@@ -82,6 +93,24 @@ module _ {n : ℕ} {d : ℕ → ℕ → ℕ} (laws : Metric n d) {starts : List 
       let on = work-on d day laws standing there in
       let way = distance-moved laws stands s r standing lt asked in
       omega arith
+
+  -- w at the stands after some calls is no more than before them and the sum of the drives
+  pub work-driven : (none : Served) (calls stands rs : List ℕ) → Instance n starts calls → Position n (length starts) stands
+      → ((r : ℕ) → List·Memᴰ r rs → r < n)
+      → work d n starts (calls ++ rs) (standsAfter d n starts calls stands rs)
+      ≤ work d n starts calls stands + sumBelow (length rs) (λ i. getD (serve d n starts calls stands rs) i none .metres)
+  unfolding servedBy serve standsAfter sumBelow
+  work-driven none calls stands [] day standing asked = rw (append-nil calls) (omega arith)
+  work-driven none calls stands (r ∷ rs) day standing asked =
+      let here : r < n = asked r (List·Memᴰ·head refl) in
+      let s = choice d n starts calls stands r in
+      let lt = choice-below laws day standing here in
+      let rest = work-driven none (calls ++ (r ∷ [])) (moved stands r s) rs (instance-then day here) (position-set stands s r here standing)
+      (λ q m. asked q (List·Memᴰ·tail m))
+      in
+      let more = work-then day standing here s lt in
+      let sum = sum-first (length rs) (λ i. getD (serve d n starts calls stands (r ∷ rs)) i none .metres) in
+      rw sum (omega (arith, rw (append-assoc calls (r ∷ []) rs) at rest))
 
   -- so no net cost is above the crane's drive
   pub netCost-most : {calls stands : List ℕ} {r : ℕ} → Instance n starts calls → Position n (length starts) stands → r < n → (s : ℕ)

@@ -1,7 +1,7 @@
 -- The stops of an instance by their numbers: their places, the calls from some number on, and sums over them. Along a
 -- movement each crane has a tag, the stop it served last: k tags below i are a `Position i k`. Assumes nothing.
 use Prim.Native.Nat.{ℕ, suc, _+_, _-_, _<_, _≤_}
-use mathlib.Core.List.{List, [], _∷_, _++_, map, append-assoc, List·Memᴰ·append-cases, Memᴰ·of-map}
+use mathlib.Core.List.{List, [], _∷_, _++_, map, append-assoc, List·Memᴰ·append-cases, Memᴰ·of-map, List·Permᴰ}
 use mathlib.Core.Logic.{⊎-elim}
 use mathlib.Core.Path.{_≡_, refl, sym, ap, subst, _∙_}
 use lib.ListN.{length, getD, set, length-append, length-set, length-map, List·getD-append}
@@ -10,14 +10,15 @@ use native.Mathlib.Nat.{add-zero, zero-add, add-assoc, le-refl, le-trans}
 use native.Mathlib.Numerals.{add-one}
 use native.Mathlib.Omega.{arith}
 use Rattle.base.specs.Lists.{upTo}
+use Rattle.base.specs.Metric.{Metric}
 use Rattle.base.proofs.Lists.{length-upTo, map-upTo, take-upTo}
 use Rattle.workfunction.specs.Lists.{sumBelow}
-use Rattle.workfunction.specs.Position.{Position}
+use Rattle.workfunction.specs.Position.{Position, pairing, distance}
 use Rattle.workfunction.specs.Movement.{Instance}
 use Rattle.workfunction.specs.Choice.{moved}
 use Rattle.workfunction.specs.Plan.{stops, place}
 use Rattle.workfunction.proofs.Lists.{in-upTo}
-use Rattle.workfunction.proofs.Position.{position-set}
+use Rattle.workfunction.proofs.Position.{position-set, stepped, together}
 use Rattle.workfunction.proofs.Sums.{total, total-upTo, entry-in}
 
 -- ---- the calls that are left
@@ -59,6 +60,11 @@ left-none g i [] none = refl
 left-none g i (r ∷ rs) none =
     rw (none i (le-refl i) (omega arith), left-none g (suc i) rs (λ p low high. none p (omega arith) (omega arith)))
 
+pub left-same : (f g : ℕ → ℕ) (i : ℕ) (rs : List ℕ) → ((p : ℕ) → i ≤ p → f p ≡ g p) → left f i rs ≡ left g i rs
+unfolding left
+left-same f g i [] same = refl
+left-same f g i (r ∷ rs) same = rw (same i (le-refl i), left-same f g (suc i) rs (λ p h. same p (omega arith)))
+
 -- ---- tags
 
 pub tags-within : {i N k : ℕ} {T : List ℕ} → i ≤ N → Position i k T → Position N k T
@@ -75,6 +81,14 @@ tags-places {n} stop on {T} t =
       cranes = length-map T stop ∙ t .cranes;
       placed = λ m. let at = Memᴰ·of-map stop T m in subst (λ (p : ℕ). p < n) (at .2) (on (at .0) (t .placed (at .1)));
     }
+
+-- the tags taken along to the next position
+pub along : {n N k : ℕ} {d : ℕ → ℕ → ℕ} → Metric n d → (stop : ℕ → ℕ) → ((p : ℕ) → p < N → stop p < n) → (T P Q : List ℕ) → Position N k T
+    → Position n k P → Position n k Q
+    → (U : List ℕ) × List·Permᴰ T U × (pairing (λ t p. d (stop t) p) U Q ≤ pairing (λ t p. d (stop t) p) T P + distance d P Q)
+along {d = d} laws stop on T P Q tags at to =
+    stepped d (λ t p. d (stop t) p) T P Q (together tags at) (together at to)
+    (λ t p q m l r. laws .triangle (stop t) p q (on t (tags .placed m)) (at .placed l) (to .placed r))
 
 -- at first each crane is at its start
 unfoldable pub firstTags : ℕ → List ℕ

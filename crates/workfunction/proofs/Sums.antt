@@ -36,6 +36,21 @@ total-set f [] j i h = absurd (not-suc-le-zero h)
 total-set f (t ∷ T) zero i h = omega arith
 total-set f (t ∷ T) (suc j) i h = let more = total-set f T j i (le-of-suc-le-suc h) in omega arith
 
+pub total-same : (f g : ℕ → ℕ) (T : List ℕ) → ((t : ℕ) → List·Memᴰ t T → f t ≡ g t) → total f T ≡ total g T
+unfolding total
+total-same f g [] same = refl
+total-same f g (t ∷ T) same = rw (same t (List·Memᴰ·head refl), total-same f g T (λ u m. same u (List·Memᴰ·tail m)))
+
+pub total-none : (f : ℕ → ℕ) (T : List ℕ) → ((t : ℕ) → List·Memᴰ t T → f t ≡ 0) → total f T ≡ 0
+unfolding total
+total-none f [] none = refl
+total-none f (t ∷ T) none = rw (none t (List·Memᴰ·head refl), total-none f T (λ u m. none u (List·Memᴰ·tail m)))
+
+pub total-at : (f : ℕ → ℕ) {t : ℕ} {T : List ℕ} → List·Memᴰ t T → f t ≤ total f T
+unfolding total
+total-at f (List·Memᴰ·head {x} {xs} e) = rw e (omega arith)
+total-at f (List·Memᴰ·tail {x} {xs} m) = let more = total-at f m in omega arith
+
 pub length-order : {A : Type 0} {T U : List A} → List·Permᴰ T U → length T ≡ length U
 length-order List·Permᴰ·nil = refl
 length-order (List·Permᴰ·cons e p) = ap suc (length-order p)
@@ -65,6 +80,13 @@ pub set-in : (T : List ℕ) (j i : ℕ) → j < length T → List·Memᴰ i (set
 set-in [] j i h = absurd (not-suc-le-zero h)
 set-in (t ∷ T) zero i h = List·Memᴰ·head refl
 set-in (t ∷ T) (suc j) i h = List·Memᴰ·tail (set-in T j i (le-of-suc-le-suc h))
+
+-- the others stay
+pub set-other : {u : ℕ} (U : List ℕ) (j i : ℕ) → List·Memᴰ u U → (u ≡ getD U j 0 → ⊥) → List·Memᴰ u (set U j i)
+set-other [] j i m n = m
+set-other (v ∷ U) zero i m n = ⊎-elim (λ e. absurd (n e)) List·Memᴰ·tail (List·Memᴰ·cases-cons m)
+set-other (v ∷ U) (suc j) i (List·Memᴰ·head e) n = List·Memᴰ·head e
+set-other (v ∷ U) (suc j) i (List·Memᴰ·tail m) n = List·Memᴰ·tail (set-other U j i m n)
 
 pub in-set : (T : List ℕ) (j i : ℕ) {a : ℕ} → List·Memᴰ a (set T j i) → (a ≡ i) ⊎ List·Memᴰ a T
 in-set [] j i m = inr m
@@ -208,7 +230,7 @@ sum-holds (suc n) t h = go (t n) refl h (sum-holds n t)
 
 -- ---- a list by its indices
 
-sum-first : (n : ℕ) (f : ℕ → ℕ) → sumBelow (suc n) f ≡ f 0 + sumBelow n (λ i. f (suc i))
+pub sum-first : (n : ℕ) (f : ℕ → ℕ) → sumBelow (suc n) f ≡ f 0 + sumBelow n (λ i. f (suc i))
 unfolding sumBelow
 sum-first zero f = omega arith
 sum-first (suc n) f = let before = sum-first n f in omega arith

@@ -6,7 +6,7 @@ use mathlib.Core.List.{List, [], _∷_, map, List·Memᴰ, List·Memᴰ·head, L
 use mathlib.Core.List.{List·Permᴰ, List·Permᴰ·cons, List·Permᴰ·swap, List·Permᴰ·trans, Permᴰ·refl, Permᴰ·symm, Permᴰ·map}
 use mathlib.Core.Logic.{_⊎_, inl, inr, ⊎-elim}
 use mathlib.Core.Path.{_≡_, refl, sym, subst, _∙_}
-use borrow.Author.Tests.{eqb-true, ne-eqb}
+use borrow.Author.Tests.{eqb-true}
 use lib.Dec.{eqb}
 use lib.ListN.{length, getD, set, length-map}
 use native.Mathlib.Nat.{suc-inj, suc-ne-zero, zero-add, le-trans, le-refl, lt-irrefl, not-suc-le-zero, le-of-suc-le-suc}
@@ -15,17 +15,13 @@ use Rattle.base.specs.Metric.{Metric}
 use Rattle.workfunction.specs.Position.{Position, pairing, distance}
 use Rattle.workfunction.specs.Movement.{Instance, Movement, cost}
 use Rattle.workfunction.specs.Plan.{follows, planCost, stops, place}
-use Rattle.workfunction.proofs.Plan.{Plan}
-use Rattle.workfunction.proofs.Position.{pairing-map, distance-below, distance-left, distance-self, distance-moved, together}
+use Rattle.workfunction.proofs.Plan.{Plan, follows-not}
+use Rattle.workfunction.proofs.Position.{pairing-map, distance-below, distance-left, distance-moved, together}
 use Rattle.workfunction.proofs.Stops.{Run, over, then, run-calls, left, left-none, tags-within, tags-set, tags-places, firstTags, first-tags}
 use Rattle.workfunction.proofs.Stops.{first-places, all-stops, stop-placed}
 use Rattle.workfunction.proofs.Sums.{total, total-order, total-set, length-order, in-order, set-in, entry-in}
 
 -- ---- the tag that a follower follows
-
-miss : (f : ℕ → ℕ) (b p : ℕ) → (f p ≡ b → ⊥) → follows f b p ≡ 0
-unfolding follows
-miss f b p n = rw (ne-eqb (f p) b n)
 
 find : (f : ℕ → ℕ) (b : ℕ) (T : List ℕ) → 0 < total (follows f b) T → (j : ℕ) × (j < length T) × (f (getD T j 0) ≡ b)
 unfolding total follows
@@ -56,7 +52,7 @@ once-without : (f : ℕ → ℕ) (e t : ℕ) {T U : List ℕ} → List·Permᴰ 
 unfolding total
 once-without f e t p other once =
     let sum = total-order (follows f e) p in
-    let none = miss f e t other in
+    let none = follows-not f e t other in
     omega arith
 
 -- where each end follows one tag, the tags have an order in which each slot has the tag that its end follows
@@ -125,7 +121,7 @@ module _ {n : ℕ} {d : ℕ → ℕ → ℕ} (laws : Metric n d) {k N : ℕ} (st
   unfolding left
   once-on T rs j i b lt goes other once =
       let sum = total-set (follows f b) T j i lt in
-      let none = miss f b (getD T j 0) (λ e. other (sym e ∙ goes)) in
+      let none = follows-not f b (getD T j 0) (λ e. other (sym e ∙ goes)) in
       omega arith
 
   -- the movement with that move before it
@@ -161,7 +157,7 @@ module _ {n : ℕ} {d : ℕ → ℕ → ℕ} (laws : Metric n d) {k N : ℕ} (st
   upper {i} {T = T} (then {r = r} {rs = rs} here run) tags call all once =
       let now : i < N = omega arith in
       let none : left (follows f i) i (r ∷ rs) ≡ 0 =
-      left-none (follows f i) i (r ∷ rs) (λ p low high. miss f i p (none-later i p call low (omega arith)))
+      left-none (follows f i) i (r ∷ rs) (λ p low high. follows-not f i p (none-later i p call low (omega arith)))
       in
       let some : 0 < total (follows f i) T = let at = once i now (inr (le-refl i)) in omega arith in
       let found = find f i T some in
@@ -217,11 +213,3 @@ module _ {n : ℕ} {d : ℕ → ℕ → ℕ} (laws : Metric n d) {starts calls :
       let order = distance-left d ends X C (together ending at) (Permᴰ·map (place starts calls) (slots .1)) in
       let sum = slots .2 in
       (found .via, found .moves, omega arith)
-
-  -- with free ends: where the cranes are after the last call
-  pub movement-free : (C : List ℕ) × (M : List (List ℕ)) × Position n (length starts) C × Movement n (length starts) calls M
-      × (cost d starts M C ≤ planCost (stops starts calls) c f)
-  movement-free =
-      let least = bound ends in
-      let still = distance-self laws ending in
-      (ends, found .via, ending, found .moves, omega arith)

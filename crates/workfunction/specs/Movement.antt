@@ -35,12 +35,6 @@ module _ (d : ℕ → ℕ → ℕ) where
     abbrev pub LeastTo : List ℕ → ℕ → Type 0
     LeastTo C = IsLeast (Movement n (length starts) calls) (λ M. cost starts M C)
 
-    -- .. of all of them, each with an end of its own
-    abbrev pub LeastOfAll : ℕ → Type 0
-    LeastOfAll =
-        IsLeast {X = List (List ℕ) × List ℕ} (λ m. Movement n (length starts) calls (m .0) × Position n (length starts) (m .1))
-        (λ m. cost starts (m .0) (m .1))
-
 -- ---- as numbers that compute
 
 -- r is an entry of C
@@ -57,6 +51,6 @@ module _ (d : ℕ → ℕ → ℕ) (n : ℕ) (starts calls : List ℕ) where
   unfoldable pub work : List ℕ → ℕ
   work C = minimum (map (λ M. cost d starts M C) (movements n (length starts) calls))
 
-  -- "'floor' is the smallest w(C) over all C": the cost of the offline optimum.
+  -- paper 8: "The floor becomes w(starts)": the least cost of all movements that bring the cranes back to the starts, any crane to any.
   unfoldable pub floor : ℕ
-  floor = minimum (map work (positions n (length starts)))
+  floor = work starts

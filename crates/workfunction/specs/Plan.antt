@@ -4,13 +4,14 @@
 -- calls. With k cranes and m calls there are N = k + m of each.
 use Prim.Native.Nat.{ℕ, _+_}
 use mathlib.Core.Bool.{Bool, true, cond, _&&_, _||_}
-use mathlib.Core.List.{List, _++_}
+use mathlib.Core.List.{List, _++_, map}
 use lib.Dec.{ltb, eqb}
 use lib.IntN.{ℤ, pos, _-ℤ_}
-use lib.ListN.{length, getD}
+use lib.ListN.{length, getD, replicate}
 use lib.Signed.{leZ}
+use Rattle.base.specs.Lists.{upTo}
 use Rattle.base.specs.Tests.{allBelow}
-use Rattle.workfunction.specs.Lists.{sumBelow}
+use Rattle.workfunction.specs.Lists.{minimum, sumBelow, filter, sections}
 
 -- "A start may be followed by any call or any stand; a call by a later call or any stand."
 unfoldable pub mayFollow : ℕ → ℕ → ℕ → Bool
@@ -52,6 +53,14 @@ vouchRule k N f c y = allBelow N (λ p. allBelow N (vouchAt k f c y p))
 unfoldable pub planCost : ℕ → (ℕ → ℕ → ℕ) → (ℕ → ℕ) → ℕ
 planCost N c f = sumBelow N (λ p. c p (f p))
 
+-- every plan, as the list of the followers of all stops
+unfoldable pub plans : ℕ → ℕ → List (List ℕ)
+plans k N = filter (λ l. planRule k N (λ p. getD l p 0)) (sections (replicate N (upTo N (λ b. b))))
+
+-- the least cost of all plans, c p b being the cost of the leg from p to b
+unfoldable pub leastPlan : ℕ → ℕ → (ℕ → ℕ → ℕ) → ℕ
+leastPlan k N c = minimum (map (λ l. planCost N c (λ p. getD l p 0)) (plans k N))
+
 -- the number of stops, and of followers
 abbrev pub stops : List ℕ → List ℕ → ℕ
 stops starts calls = length starts + length calls
@@ -64,7 +73,3 @@ module _ (d : ℕ → ℕ → ℕ) (starts calls : List ℕ) where
   -- d(p,b): "For a stop or a crane, d is taken at its place or present stand."
   unfoldable pub legCost : List ℕ → ℕ → ℕ → ℕ
   legCost stands p b = d (place starts calls p) (place stands calls b)
-
-  -- the same with free ends: the leg after the last call costs nothing
-  unfoldable pub freeCost : ℕ → ℕ → ℕ
-  freeCost p b = cond (ltb b (length starts)) 0 (d (place starts calls p) (place starts calls b))

@@ -11,49 +11,48 @@ use Rattle.base.proofs.Lists.{length-upTo, getD-upTo, upTo-same, upTo-append}
 use Rattle.base.proofs.Tests.{by-order}
 use Rattle.workfunction.specs.Plan.{stops, place}
 use Rattle.workfunction.proofs.Stops.{place-stand}
-use Rattle.book.specs.Book.{mostStops}
 use Rattle.book.proofs.Places.{place-past}
-use Rattle.dispatch.specs.Legs.{cell, followerRow, Costed}
+use Rattle.dispatch.specs.Legs.{planRoom, cell, followerRow, Costed}
 
 -- a table whose followers keep their rows
 pub costed-kept : {costs costs' : List ℕ} → Costed costs → length costs' ≡ length costs
-    → ((b : ℕ) → b < mostStops → followerRow costs' b ≡ followerRow costs b) → Costed costs'
+    → ((b : ℕ) → b < planRoom → followerRow costs' b ≡ followerRow costs b) → Costed costs'
 costed-kept k long same = record { long = rw long (k .long); rows = λ b h. rw (same b h) (k .rows b h) }
 
 -- the number in row i, column p is written
-module _ (costs : List ℕ) (i p v : ℕ) (col : p < mostStops) where
-  pub cell-written : mostStops * i + p < length costs → cell (set costs (mostStops * i + p) v) i p ≡ v
+module _ (costs : List ℕ) (i p v : ℕ) (col : p < planRoom) where
+  pub cell-written : planRoom * i + p < length costs → cell (set costs (planRoom * i + p) v) i p ≡ v
   unfolding cell
-  cell-written fits = getD-set-same costs (mostStops * i + p) v 0 fits
+  cell-written fits = getD-set-same costs (planRoom * i + p) v 0 fits
 
   -- every other number is as it was
-  pub cell-kept : (j q : ℕ) → q < mostStops → (j ≡ i → q ≡ p → ⊥) → cell (set costs (mostStops * i + p) v) j q ≡ cell costs j q
+  pub cell-kept : (j q : ℕ) → q < planRoom → (j ≡ i → q ≡ p → ⊥) → cell (set costs (planRoom * i + p) v) j q ≡ cell costs j q
   unfolding cell
   cell-kept j q lt other =
-      getD-set-other costs (mostStops * i + p) (mostStops * j + q) v 0 (λ (e : mostStops * j + q ≡ mostStops * i + p). other (omega arith) (omega arith))
+      getD-set-other costs (planRoom * i + p) (planRoom * j + q) v 0 (λ (e : planRoom * j + q ≡ planRoom * i + p). other (omega arith) (omega arith))
 
 -- row i, as far as n columns, as it is lent
 abbrev pub lent : List ℕ → ℕ → ℕ → List ℕ
-lent costs i n = take (mostStops * i + n - mostStops * i) (drop (mostStops * i) costs)
+lent costs i n = take (planRoom * i + n - planRoom * i) (drop (planRoom * i) costs)
 
 -- the table with that row put back
 abbrev pub rowBack : List ℕ → ℕ → ℕ → List ℕ → List ℕ
-rowBack costs i n row = take (mostStops * i) costs ++ (row ++ drop (mostStops * i + n - mostStops * i) (drop (mostStops * i) costs))
+rowBack costs i n row = take (planRoom * i) costs ++ (row ++ drop (planRoom * i + n - planRoom * i) (drop (planRoom * i) costs))
 
 -- the row is filled by g
-module _ (costs row : List ℕ) (i n : ℕ) (g : ℕ → ℕ) (fits : mostStops * i + n ≤ length costs)
+module _ (costs row : List ℕ) (i n : ℕ) (g : ℕ → ℕ) (fits : planRoom * i + n ≤ length costs)
     (same : row ≡ upTo (length (lent costs i n)) g) where
   row-is : row ≡ upTo n g
   row-is =
       same
       ∙ ap (λ (m : ℕ). upTo m g)
-      (length-take-le (mostStops * i + n - mostStops * i) (drop (mostStops * i) costs) (rw length-drop (omega arith)) ∙ omega arith)
+      (length-take-le (planRoom * i + n - planRoom * i) (drop (planRoom * i) costs) (rw length-drop (omega arith)) ∙ omega arith)
 
   row-long : length row ≡ n
   row-long = ap length row-is ∙ length-upTo n g
 
-  front : length (take (mostStops * i) costs) ≡ mostStops * i
-  front = length-take-le (mostStops * i) costs (omega arith)
+  front : length (take (planRoom * i) costs) ≡ planRoom * i
+  front = length-take-le (planRoom * i) costs (omega arith)
 
   pub length-row : length (rowBack costs i n row) ≡ length costs
   length-row = simp (length-append, front, row-long, length-drop) (omega arith)
@@ -61,30 +60,30 @@ module _ (costs row : List ℕ) (i n : ℕ) (g : ℕ → ℕ) (fits : mostStops 
   pub row-new : (p : ℕ) → p < n → cell (rowBack costs i n row) i p ≡ g p
   unfolding cell
   row-new p h =
-      ap (λ (m : ℕ). getD (rowBack costs i n row) (m + p) 0) (sym front) ∙ getD-append-add (take (mostStops * i) costs) _ p 0
+      ap (λ (m : ℕ). getD (rowBack costs i n row) (m + p) 0) (sym front) ∙ getD-append-add (take (planRoom * i) costs) _ p 0
       ∙ rw row-is (List·getD-append (upTo n g) _ 0 p (rw length-upTo h)) ∙ getD-upTo n g p 0 h
 
   -- what stands before the row and behind it is as it was
-  before : (k : ℕ) → k < mostStops * i → getD (rowBack costs i n row) k 0 ≡ getD costs k 0
-  before k h = List·getD-append (take (mostStops * i) costs) _ 0 k (rw front h) ∙ getD-take (mostStops * i) costs k 0 h
+  before : (k : ℕ) → k < planRoom * i → getD (rowBack costs i n row) k 0 ≡ getD costs k 0
+  before k h = List·getD-append (take (planRoom * i) costs) _ 0 k (rw front h) ∙ getD-take (planRoom * i) costs k 0 h
 
-  behind : (m : ℕ) → getD (rowBack costs i n row) (mostStops * i + (n + m)) 0 ≡ getD costs (mostStops * i + (n + m)) 0
+  behind : (m : ℕ) → getD (rowBack costs i n row) (planRoom * i + (n + m)) 0 ≡ getD costs (planRoom * i + (n + m)) 0
   behind m =
-      let e : mostStops * i + n - mostStops * i ≡ n = omega arith in
-      ap (λ (k : ℕ). getD (rowBack costs i n row) (k + (n + m)) 0) (sym front) ∙ getD-append-add (take (mostStops * i) costs) _ (n + m) 0
-      ∙ ap (λ (k : ℕ). getD (row ++ drop (mostStops * i + n - mostStops * i) (drop (mostStops * i) costs)) (k + m) 0) (sym row-long)
-      ∙ getD-append-add row _ m 0 ∙ rw e (getD-drop n (drop (mostStops * i) costs) m 0) ∙ getD-drop (mostStops * i) costs (n + m) 0
+      let e : planRoom * i + n - planRoom * i ≡ n = omega arith in
+      ap (λ (k : ℕ). getD (rowBack costs i n row) (k + (n + m)) 0) (sym front) ∙ getD-append-add (take (planRoom * i) costs) _ (n + m) 0
+      ∙ ap (λ (k : ℕ). getD (row ++ drop (planRoom * i + n - planRoom * i) (drop (planRoom * i) costs)) (k + m) 0) (sym row-long)
+      ∙ getD-append-add row _ m 0 ∙ rw e (getD-drop n (drop (planRoom * i) costs) m 0) ∙ getD-drop (planRoom * i) costs (n + m) 0
 
   -- and so are the other rows
-  pub row-kept : n ≤ mostStops → (j p : ℕ) → p < mostStops → (j ≡ i → ⊥) → cell (rowBack costs i n row) j p ≡ cell costs j p
+  pub row-kept : n ≤ planRoom → (j p : ℕ) → p < planRoom → (j ≡ i → ⊥) → cell (rowBack costs i n row) j p ≡ cell costs j p
   unfolding cell
   row-kept few j p h away =
-      by-order j i (λ l. before (mostStops * j + p) (omega arith)) (λ e. absurd (away e)) (λ l. far (mostStops * j + p) (omega arith))
+      by-order j i (λ l. before (planRoom * j + p) (omega arith)) (λ e. absurd (away e)) (λ l. far (planRoom * j + p) (omega arith))
     where
-      far : (k : ℕ) → mostStops * i + n ≤ k → getD (rowBack costs i n row) k 0 ≡ getD costs k 0
+      far : (k : ℕ) → planRoom * i + n ≤ k → getD (rowBack costs i n row) k 0 ≡ getD costs k 0
       far k le =
-          let e : mostStops * i + (n + (k - n - mostStops * i)) ≡ k = omega arith in
-          rw e at (behind (k - n - mostStops * i))
+          let e : planRoom * i + (n + (k - n - planRoom * i)) ≡ k = omega arith in
+          rw e at (behind (k - n - planRoom * i))
 
 -- a row in two parts: from the starts, then from the calls
 module _ (d : ℕ → ℕ) (starts calls row front back : List ℕ) (some : length starts ≤ length row) (most : length row ≤ stops starts calls)

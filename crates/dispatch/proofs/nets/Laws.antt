@@ -5,6 +5,7 @@ use mathlib.Core.List.{List, [], _∷_, _++_}
 use mathlib.Core.Path.{_≡_}
 use lib.IntN.{ℤ, pos, _-ℤ_}
 use lib.ListN.{length, set, drop, replicate}
+use native.Mathlib.Nat.{le-trans}
 use native.Mathlib.Omega.{arith}
 use Rattle.base.specs.Lists.{upTo}
 use Rattle.base.proofs.Lists.{drop-replicate, padded-same}
@@ -15,13 +16,13 @@ use Rattle.workfunction.specs.Choice.{moved, netCost}
 use Rattle.workfunction.specs.Movement.{work}
 use Rattle.workfunction.specs.Plan.{stops}
 use Rattle.book.specs.declared.Book.{Book}
-use Rattle.book.specs.Book.{startsOf, standsOf, requestsOf, stopsOf, follower, BookArrays}
+use Rattle.book.specs.Book.{mostStops, startsOf, standsOf, requestsOf, stopsOf, follower, BookArrays}
 use Rattle.book.proofs.Sound.{Fits, starts-long, requests-long, stops-long, sound-fits}
 use Rattle.dispatch.specs.Insertion.{Found, Kept, BookNetted}
 use Rattle.dispatch.specs.Legs.{legAt, StopAdded}
 use Rattle.dispatch.specs.NetCosts.{NetList, netsByCrane}
 use Rattle.dispatch.specs.Search.{at, netBase}
-use Rattle.dispatch.proofs.Answered.{kept-most, kept-present, kept-netted}
+use Rattle.dispatch.proofs.Answered.{kept-few, kept-most, kept-present, kept-netted}
 use Rattle.dispatch.proofs.Called.{Called}
 use Rattle.dispatch.proofs.Roads.{sound-roads}
 use Rattle.dispatch.proofs.insert.Laws.{ends-low}
@@ -45,14 +46,14 @@ module _ {book : Book} {n : ℕ} {t : Table} {r : ℕ} (arrays : BookArrays book
   book-netted {nets = nets} {total = total} {parent} {rank} {before} kept added e found =
       let roads = sound-roads (called .sound) in
       let longer = call-last added in
-      let room : length (requestsOf book) < mostCalls = rw (requests-long fits) (called .space) in
-      let few = called .sound .counts in
-      let most = rw (stops-long fits) at (kept-most roads kept room (called .on) longer) in
+      let few : stops (startsOf book) (requestsOf book) < mostStops = kept-few kept (rw (requests-long fits) (called .space)) in
+      let long : stops (startsOf book) (requestsOf book) < length (book .plan) = le-trans few (kept .planLong) in
+      let most = rw (stops-long fits) at (kept-most roads kept few long (called .on) longer) in
       record {
         netted =
-            kept-netted roads kept room (called .on) longer {total = total} {parent = parent} {rank = rank} {before = before} {netEnd = at nets}
+            kept-netted roads kept few long (called .on) longer {total = total} {parent = parent} {rank = rank} {before = before} {netEnd = at nets}
             (rw (starts-long fits, requests-long fits, ← e) found);
-        present = rw (stops-long fits) at (kept-present roads kept room (called .on) longer);
+        present = rw (stops-long fits) at (kept-present roads kept few long (called .on) longer);
         most = omega arith;
         low = ends-low found;
         costed = added .costed;

@@ -7,7 +7,7 @@ use borrow.Author.Tests.{lt-ltb, le-ltb}
 use native.Mathlib.Decide.{ℕ-discrete, decLt}
 use native.Mathlib.Omega.{arith}
 use Rattle.road.specs.Table.{mostMetres}
-use Rattle.book.specs.Book.{mostStops}
+use Rattle.dispatch.specs.Legs.{planRoom}
 use Rattle.dispatch.specs.Search.{netBase, reach, Begun, Nearest, Unbettered, Bettered, Relaxed, Ready, Searched}
 
 -- ---- how far a follower reaches
@@ -53,17 +53,17 @@ pub record Stored (i x : ℕ) (old new : ℕ → ℕ) : Type 0 where
 -- q is an open stop of least key below N, the key of p being total p + head p
 pub record Least (N : ℕ) (head total rank : ℕ → ℕ) (q : ℕ) : Type 0 where
   pub below : q < N
-  pub unsettled : rank q ≡ mostStops
-  pub least : (p : ℕ) → p < N → rank p ≡ mostStops → total q + head q ≤ total p + head p
+  pub unsettled : rank q ≡ planRoom
+  pub least : (p : ℕ) → p < N → rank p ≡ planRoom → total q + head q ≤ total p + head p
 
 -- the first `left` stops of the list are those below N that are open, each once
 pub record Listed (N left : ℕ) (stop rank : ℕ → ℕ) : Type 0 where
   pub below : (i : ℕ) → i < left → stop i < N
-  pub unsettled : (i : ℕ) → i < left → rank (stop i) ≡ mostStops
-  pub every : (p : ℕ) → p < N → rank p ≡ mostStops → (i : ℕ) × ((i < left) × (stop i ≡ p))
+  pub unsettled : (i : ℕ) → i < left → rank (stop i) ≡ planRoom
+  pub every : (p : ℕ) → p < N → rank p ≡ planRoom → (i : ℕ) × ((i < left) × (stop i ≡ p))
   pub once : (i j : ℕ) → i < left → j < left → stop i ≡ stop j → i ≡ j
 
-pub listed-begun : {N left : ℕ} {stop rank : ℕ → ℕ} → left ≡ N → ((p : ℕ) → p < N → stop p ≡ p) → ((p : ℕ) → p < N → rank p ≡ mostStops)
+pub listed-begun : {N left : ℕ} {stop rank : ℕ → ℕ} → left ≡ N → ((p : ℕ) → p < N → stop p ≡ p) → ((p : ℕ) → p < N → rank p ≡ planRoom)
     → Listed N left stop rank
 listed-begun all self unsettled = record {
   below = λ i lt. rw (self i (omega arith)) (omega arith);
@@ -85,7 +85,7 @@ listed-least {N} {left} {i} {stop} {rank} {head} {total} s n = record {
 
 -- the stop at i is settled, and the last takes its place
 module _ {N left left' i r : ℕ} {stop stop' rank rank' : ℕ → ℕ} (s : Listed N left stop rank) (last : left ≡ left' + 1) (lt : i < left)
-    (settled : r < mostStops) (moved : Stored i (stop left') stop stop') (ranked : Stored (stop i) r rank rank') where
+    (settled : r < planRoom) (moved : Stored i (stop left') stop stop') (ranked : Stored (stop i) r rank rank') where
   -- a stop that is left stood elsewhere than at i
   stood : (j : ℕ) → j < left' → (l : ℕ) × ((l < left) × ((l ≡ i → ⊥) × (stop' j ≡ stop l)))
   stood j less = go (ℕ-discrete j i)
@@ -97,10 +97,10 @@ module _ {N left left' i r : ℕ} {stop stop' rank rank' : ℕ → ℕ} (s : Lis
   still-below : (j : ℕ) → (l : ℕ) × ((l < left) × ((l ≡ i → ⊥) × (stop' j ≡ stop l))) → stop' j < N
   still-below j (l, (less, (ne, e))) = rw e (s .below l less)
 
-  still-open : (j : ℕ) → (l : ℕ) × ((l < left) × ((l ≡ i → ⊥) × (stop' j ≡ stop l))) → rank' (stop' j) ≡ mostStops
+  still-open : (j : ℕ) → (l : ℕ) × ((l < left) × ((l ≡ i → ⊥) × (stop' j ≡ stop l))) → rank' (stop' j) ≡ planRoom
   still-open j (l, (less, (ne, e))) = rw e (ranked .others (stop l) (λ h. ne (s .once l i less lt h)) ∙ s .unsettled l less)
 
-  still-every : (p : ℕ) → p < N → rank' p ≡ mostStops → (j : ℕ) × ((j < left') × (stop' j ≡ p))
+  still-every : (p : ℕ) → p < N → rank' p ≡ planRoom → (j : ℕ) × ((j < left') × (stop' j ≡ p))
   still-every p less o = find (s .every p less (sym (ranked .others p other) ∙ o))
     where
       other : p ≡ stop i → ⊥
@@ -154,13 +154,13 @@ pub record Settling (k N : ℕ) (f : ℕ → ℕ) (c : ℕ → ℕ → ℕ) (hea
   -- a round takes a leg off a total at the most
   pub low : (p : ℕ) → p ≤ N → netBase ≤ total p + mostMetres * i
   pub high : (p : ℕ) → p ≤ N → total p ≤ netBase + mostMetres
-  pub ranks : (p : ℕ) → p < N → (rank p ≡ mostStops) ⊎ (rank p < i)
+  pub ranks : (p : ℕ) → p < N → (rank p ≡ planRoom) ⊎ (rank p < i)
   -- no way over a settled stop is better than what p has
   pub least : (p q : ℕ) → p < N → q ≤ N → rank q < i → (f q < k) ⊎ (p < f q) → total p + c q (f q) ≤ total q + c p (f q)
   -- what p has is the way over its parent
   pub held : (p : ℕ) → p < N → Held k N f c i total rank p (parent p)
   -- no settled stop has a greater key than an open one
-  pub order : (p v : ℕ) → p < N → v < N → rank p < i → rank v ≡ mostStops → total p + head p ≤ total v + head v
+  pub order : (p v : ℕ) → p < N → v < N → rank p < i → rank v ≡ planRoom → total p + head p ≤ total v + head v
   pub most : i ≤ N + 1
 
 module _ {k N : ℕ} {f : ℕ → ℕ} {c : ℕ → ℕ → ℕ} {head : ℕ → ℕ} (ready : Ready k N f c head) where
@@ -269,11 +269,11 @@ module _ {k N : ℕ} {f : ℕ → ℕ} {c : ℕ → ℕ → ℕ} {head : ℕ →
           go (inl h) = let e = h .same in omega arith
           go (inr b) = let e = b .taken in let less = b .less in omega arith
 
-      below-open : i < mostStops
+      below-open : i < planRoom
       below-open = let m = ready .most in omega arith
 
       other : (p : ℕ) → rank p < i → p ≡ q → ⊥
-      other p r e = let o : rank p ≡ mostStops = rw e (picked .unsettled) in let m = below-open in omega arith
+      other p r e = let o : rank p ≡ planRoom = rw e (picked .unsettled) in let m = below-open in omega arith
 
       old-rank : (p : ℕ) → rank p < i → rank' p ≡ rank p
       old-rank p r = ranked .others p (other p r)
@@ -290,12 +290,12 @@ module _ {k N : ℕ} {f : ℕ → ℕ} {c : ℕ → ℕ → ℕ} {head : ℕ →
               inr (rw (e, s .source) (omega arith))
           go (no m) (yes h) = settle (s .ranks p h)
             where
-              settle : (rank p ≡ mostStops) ⊎ (rank p < i) → (p ≡ q) ⊎ (rank p < i)
+              settle : (rank p ≡ planRoom) ⊎ (rank p < i) → (p ≡ q) ⊎ (rank p < i)
               settle (inl o) = absurd (let e = ranked .others p m in let b = below-open in omega arith)
               settle (inr l) = inr l
 
       -- an open stop has a key no less than that of q
-      open-key : (v : ℕ) → v < N → rank v ≡ mostStops → total q + head q ≤ total' v + head v
+      open-key : (v : ℕ) → v < N → rank v ≡ planRoom → total q + head q ≤ total' v + head v
       open-key v lt o = go (row .each v)
         where
           go : Way v → total q + head q ≤ total' v + head v
@@ -332,7 +332,7 @@ module _ {k N : ℕ} {f : ℕ → ℕ} {c : ℕ → ℕ → ℕ} {head : ℕ →
               let leg = kept-leg q (omega arith) in
               omega arith
 
-      new-rank : (p : ℕ) → p < N → rank p ≡ mostStops → (p ≡ q → ⊥) → rank' q < rank' p
+      new-rank : (p : ℕ) → p < N → rank p ≡ planRoom → (p ≡ q → ⊥) → rank' q < rank' p
       new-rank p lt o ne = rw (ranked .here, ranked .others p ne, o) below-open
 
       new-held : (p : ℕ) → p < N → Held k N f c (i + 1) total' rank' p (parent' p)
@@ -354,7 +354,7 @@ module _ {k N : ℕ} {f : ℕ → ℕ} {c : ℕ → ℕ → ℕ} {head : ℕ →
           moved-on : total' p < total p → total' p ≡ total p → ⊥
           moved-on l e = omega arith
 
-          not-settled : total' p < total p → (rank p ≡ mostStops) ⊎ (rank p < i) → rank p ≡ mostStops
+          not-settled : total' p < total p → (rank p ≡ planRoom) ⊎ (rank p < i) → rank p ≡ planRoom
           not-settled l (inl o) = o
           not-settled l (inr r) = absurd (moved-on l (settled-stays p r))
 
@@ -378,21 +378,21 @@ module _ {k N : ℕ} {f : ℕ → ℕ} {c : ℕ → ℕ → ℕ} {head : ℕ →
           go (inl h) = rw (h .parented) (keep (h .same))
           go (inr b) = rw (b .parented) (take b)
 
-      new-ranks : (p : ℕ) → p < N → (rank' p ≡ mostStops) ⊎ (rank' p < i + 1)
+      new-ranks : (p : ℕ) → p < N → (rank' p ≡ planRoom) ⊎ (rank' p < i + 1)
       new-ranks p lt = go (ℕ-discrete p q) (s .ranks p lt)
         where
-          go : Dec (p ≡ q) → (rank p ≡ mostStops) ⊎ (rank p < i) → (rank' p ≡ mostStops) ⊎ (rank' p < i + 1)
+          go : Dec (p ≡ q) → (rank p ≡ planRoom) ⊎ (rank p < i) → (rank' p ≡ planRoom) ⊎ (rank' p < i + 1)
           go (yes e) _ = inr (rw (e, ranked .here) (omega arith))
           go (no m) (inl o) = inl (ranked .others p m ∙ o)
           go (no m) (inr r) = inr (rw (ranked .others p m) (omega arith))
 
-      new-order : (p v : ℕ) → p < N → v < N → (p ≡ q) ⊎ (rank p < i) → rank' v ≡ mostStops → total' p + head p ≤ total' v + head v
+      new-order : (p v : ℕ) → p < N → v < N → (p ≡ q) ⊎ (rank p < i) → rank' v ≡ planRoom → total' p + head p ≤ total' v + head v
       new-order p v lt l at o = go at
         where
           ne : v ≡ q → ⊥
           ne e = let h : rank' v ≡ i = rw e (ranked .here) in let m = below-open in omega arith
 
-          was : rank v ≡ mostStops
+          was : rank v ≡ planRoom
           was = sym (ranked .others v ne) ∙ o
 
           go : (p ≡ q) ⊎ (rank p < i) → total' p + head p ≤ total' v + head v
@@ -419,11 +419,11 @@ module _ {k N : ℕ} {f : ℕ → ℕ} {c : ℕ → ℕ → ℕ} {head : ℕ →
   -- ---- in the end
 
   module _ {i : ℕ} {total parent rank : ℕ → ℕ} (s : Settling k N f c head i total parent rank) (over : N < i)
-      (none : (p : ℕ) → p < N → rank p ≡ mostStops → ⊥) where
+      (none : (p : ℕ) → p < N → rank p ≡ planRoom → ⊥) where
     all-settled : (p : ℕ) → p ≤ N → rank p < i
     all-settled p le = go (decLt p N)
       where
-        pick : p < N → (rank p ≡ mostStops) ⊎ (rank p < i) → rank p < i
+        pick : p < N → (rank p ≡ planRoom) ⊎ (rank p < i) → rank p < i
         pick lt (inl o) = absurd (none p lt o)
         pick lt (inr r) = r
 

@@ -80,9 +80,10 @@ put-on {a} {b} {old} {at = at} p q h =
 
 -- ---- how long the lines are at most
 
-pub length-lastLine : (driven floor : ℕ) → length (lastLine driven floor) ≤ 55
+pub length-lastLine : (driven home floor : ℕ) → length (lastLine driven home floor) ≤ 81
 unfolding lastLine
-length-lastLine driven floor = simp length-append (omega (arith, length-decimal driven, length-decimal floor))
+length-lastLine driven home floor =
+    simp length-append (omega (arith, length-decimal driven, length-decimal home, length-decimal floor))
 
 pub length-refusedLine : (number index : ℕ) → length (refusedLine number index) ≤ 57
 unfolding refusedLine
@@ -102,9 +103,9 @@ module _ (f g h : ℕ → ℕ) where
   length-callLines (suc m) = rw length-append (omega (arith, length-callLines m, length-callLine m (f m) (g m) (h m)))
 
   -- the text of a day fits
-  pub day-fits : (m driven floor : ℕ) → m ≤ mostCalls → length (dayText m f g h driven floor) ≤ 32768
+  pub day-fits : (m driven home floor : ℕ) → m ≤ mostCalls → length (dayText m f g h driven home floor) ≤ 32768
   unfolding dayText
-  day-fits m driven floor few = rw length-append (omega (arith, length-callLines m, length-lastLine driven floor))
+  day-fits m driven home floor few = rw length-append (omega (arith, length-callLines m, length-lastLine driven home floor))
 
   pub calls-most : (m : ℕ) {old now : List ℕ} {x : ℕ} → Put (callLines m f g h) old 0 now x → x ≤ 108 * m
   calls-most m p = omega (arith, p .behind, length-callLines m)

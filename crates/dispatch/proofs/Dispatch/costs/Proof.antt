@@ -17,11 +17,15 @@ refused : (book : Book) (places : ℕ) (t : Table) (n : ℕ) → n ≡ bookRefus
 unfolding costsOf
 refused book places t n e h = rw (← e) (zeros-told n _ (λ m. record { number = m; least = 0; floor = 0 }) h)
 
-told : (book : Book) (n : ℕ) (t : Table) (l f : ℕ) → bookRefusal book n t ≡ 0
-    → l ≡ work (metresOf t) n (startsOf book) (requestsOf book) (standsOf book) → f ≡ floor (metresOf t) n (startsOf book) (requestsOf book)
-    → _≡_ {A = TwoCosts} (record { number = 0; least = l; floor = f }) (costsOf book n t)
+told : (book : Book) (n : ℕ) (t : Table) {c : TwoCosts} → bookRefusal book n t ≡ 0
+    → c ≡ record {
+      number = 0;
+      least = work (metresOf t) n (startsOf book) (requestsOf book) (standsOf book);
+      floor = floor (metresOf t) n (startsOf book) (requestsOf book);
+    }
+    → c ≡ costsOf book n t
 unfolding costsOf
-told book n t l f sound least low = rw (sound, least, low)
+told book n t sound costs = rw sound costs
 
 -- what the test of the book tells once it accepted
 tested : (c : tie.After-enum-told) → let a = c .before .before .before .before .args in bookRefusal (a .book) (a .places) (a .table .now) ≡ 0
@@ -41,19 +45,13 @@ returns c =
     let e = c .enum-told2 .given in
     refused _ _ _ _ (c .before .before .test .ensures) (refused-number _ (e .0 .0) (e .1))
 
-least-requires : tie.Need-least-requires
-least-requires c κs = (_, tested c)
-
-floor-requires : tie.Need-floor-requires
-floor-requires c κs = (_, tested (c .before))
+accepted-requires : tie.Need-accepted-requires
+accepted-requires c κs = (_, tested c)
 
 returns-2 : tie.Need-returns-2
-returns-2 c =
-    let l = c .before in
-    let t = l .before in
-    told _ _ _ _ _ (tested t) (l .least .ensures _ (tested t)) (c .floor .ensures _ (tested t))
+returns-2 c = let t = c .before in told _ _ _ (tested t) (c .accepted .ensures _ (tested t))
 
 pub costs-spec : {M : Type 1} → statement M
 costs-spec =
     tie.close
-    (tie.spec test-requires enum-told enum-told-2 returns least-requires floor-requires returns-2)
+    (tie.spec test-requires enum-told enum-told-2 returns accepted-requires returns-2)

@@ -97,7 +97,7 @@ slice-aggregate-of-book : tie.Need-slice-aggregate-of-book
 slice-aggregate-of-book c = search needs
 
 of-book-requires : tie.Need-of-book-requires
-of-book-requires c κs = let t = at-costs c in sound-given (arrays t) (tested-so t .sound) (c .before .zeros .ensures .costed)
+of-book-requires c κs = let t = at-costs c in sound-given (arrays t) (tested-so t .sound) (c .before .zeros .ensures)
 
 array-share-prefix-starts : tie.Need-array-share-prefix-starts
 array-share-prefix-starts c = tidy-fits (at-fill c) .starts

@@ -1,11 +1,20 @@
--- `dispatch::day::served` meets its contract: the calls are served from the fresh book, and the floor is that of the day.
--- Assumes nothing.
-use mathlib.Core.Path.{sym}
+-- `dispatch::day::served` meets its contract: the calls are served from the fresh book, the way home is that of the last stands, and the
+-- floor is found from the plan to them. Assumes nothing.
+use Prim.Native.Nat.{_≤_}
+use mathlib.Core.Path.{sym, ap, _∙_}
 use borrow.Author.Needs.{needs}
-use Rattle.dispatch.proofs.Carried.{sound-given}
-use Rattle.dispatch.proofs.DayServed.{FreshDay, day-sound, day-fits, calls-fit, calls-long, day-called, day-asked, day-kept, day-figures}
+use lib.ListN.{length}
+use native.Mathlib.Omega.{arith}
+use Rattle.road.specs.Table.{Table}
+use Rattle.dayfile.specs.declared.Day.{Day}
+use Rattle.book.specs.declared.Book.{Book}
 use Rattle.book.proofs.Sound.{starts-long, stands-long}
+use Rattle.dispatch.specs.Legs.{planRoom}
+use Rattle.dispatch.proofs.Carried.{sound-given}
+use Rattle.dispatch.proofs.DayServed.{FreshDay, day-sound, day-fits, calls-fit, calls-long, day-called, day-asked, day-kept}
+use Rattle.dispatch.proofs.DayServed.{last-long, last-within, last-lent, home-given, floor-given, day-figures}
 use Rattle.dispatch.proofs.Roads.{sound-roads}
+use Rattle.dispatch.proofs.ends.Laws.{own-filled}
 use Rattle.dispatch.proofs.day.served.Statement.{statement}
 use Rattle.dispatch.proofs.day.served.Tie as tie
 
@@ -20,31 +29,49 @@ given s = record {
 }
 
 -- the places of the code from which the others are looked back upon
-abbrev start : tie.After-costs → tie.Start
-start c = c .before .before .before .before .before .before .before .before
+abbrev start : tie.After-fill-own → tie.Start
+start c = c .before .before .before .before .before .before .before
 
-abbrev filled : tie.After-leasts → tie.After-costs2
-filled c = c .before .before .before .before .before .before .before .before .before
+abbrev filled : tie.After-of-book → tie.After-fill-own
+filled c = c .before .before .before
+
+abbrev at-calls : tie.After-costs2 → tie.Start
+at-calls c = start (filled (c .before))
+
+abbrev asked : tie.After-serve-all → tie.After-costs2
+asked c = c .before .before .before .before .before .before .before .before .before .before
 
 abbrev answered : tie.After-leasts2 → tie.After-serve-all
 answered c = c .before .before .before .before .before .before .before
 
--- the fresh book, as the calls and as the floor are asked for
-abbrev at-calls : tie.After-costs2 → tie.Start
-at-calls c = start (c .before .before)
+abbrev at-home : tie.After-leasts2 → tie.Start
+at-home c = at-calls (asked (answered c))
 
-abbrev at-floor : tie.After-leasts2 → tie.Start
-at-floor c = at-calls (filled (answered c .before))
+abbrev at-floor : tie.After-home → tie.Start
+at-floor c = at-home (c .before .before .before)
+
+-- there is room for the cranes
+room : {day : Day} {t : Table} {book : Book} → FreshDay day t book → book .cranes ≤ planRoom
+room g = omega (arith, day-asked g .cranes, starts-long (day-fits g))
 
 zeros-requires : tie.Need-zeros-requires
 zeros-requires c κs = search needs
+
+slice-aggregate-fill-own : tie.Need-slice-aggregate-fill-own
+slice-aggregate-fill-own c = search needs
+
+fill-own-requires : tie.Need-fill-own-requires
+fill-own-requires c κs =
+    let s = c .before .before .before .before .before .before in
+    let k = day-sound (given s) .counts in
+    (omega arith, omega arith)
 
 slice-aggregate-of-book : tie.Need-slice-aggregate-of-book
 slice-aggregate-of-book c = search needs
 
 of-book-requires : tie.Need-of-book-requires
 of-book-requires c κs =
-    let g = given (start c) in sound-given (g .arrays) (day-sound g) (c .before .zeros .ensures .costed)
+    let g = given (start (c .before .before)) in sound-given (g .arrays) (day-sound g) (c .before .before .before .before .zeros .ensures)
 
 array-share-prefix-starts : tie.Need-array-share-prefix-starts
 array-share-prefix-starts c = day-fits (given (at-calls c)) .starts
@@ -84,15 +111,15 @@ slice-aggregate-serve-all-9 c = search needs
 
 serve-all-requires : tie.Need-serve-all-requires
 serve-all-requires c κs =
-    let f = filled c in
-    let g = given (at-calls f) in
-    let kept = day-kept g (f .before .of-book .ensures) in
+    let b = c .before .before .before .before .before .before .before .before .before .before in
+    let o = filled b in
+    let g = given (start o) in
     let few = day-asked g .few in
     record {
       places = _;
       between = _;
       roads = sound-roads (day-sound g);
-      kept = kept;
+      kept = day-kept g (b .of-book .ensures) (own-filled _ (room g) (o .fill-own .ensures));
       called = day-called g;
       few = few;
       sent = few;
@@ -100,8 +127,43 @@ serve-all-requires c κs =
       costed = few;
     }
 
+array-share-prefix-stands : tie.Need-array-share-prefix-stands
+array-share-prefix-stands c =
+    let a = answered c in
+    let b = asked a .before in
+    let o = filled b in
+    let g = given (start o) in
+    let kept = day-kept g (b .of-book .ensures) (own-filled _ (room g) (o .fill-own .ensures)) in
+    last-within g (a .serve-all .ensures _ _ (sound-roads (day-sound g)) kept (day-called g)) _
+
+slice-aggregate-home : tie.Need-slice-aggregate-home
+slice-aggregate-home c =
+    let a = answered (c .before) in
+    let b = asked a .before in
+    let o = filled b in
+    let g = given (start o) in
+    let kept = day-kept g (b .of-book .ensures) (own-filled _ (room g) (o .fill-own .ensures)) in
+    let done = a .serve-all .ensures _ _ (sound-roads (day-sound g)) kept (day-called g) in
+    sym (ap length (last-lent g done _) ∙ last-long g done)
+
 array-share-prefix-starts-2 : tie.Need-array-share-prefix-starts-2
-array-share-prefix-starts-2 c = day-fits (given (at-floor c)) .starts
+array-share-prefix-starts-2 c = day-fits (given (at-home (c .before))) .starts
+
+slice-aggregate-home-2 : tie.Need-slice-aggregate-home-2
+slice-aggregate-home-2 c = sym (starts-long (day-fits (given (at-home (c .before .before)))))
+
+home-requires : tie.Need-home-requires
+home-requires c κs =
+    let a = answered (c .before .before) in
+    let b = asked a .before in
+    let o = filled b in
+    let g = given (start o) in
+    let kept = day-kept g (b .of-book .ensures) (own-filled _ (room g) (o .fill-own .ensures)) in
+    let done = a .serve-all .ensures _ _ (sound-roads (day-sound g)) kept (day-called g) in
+    rw (last-lent g done _) (home-given g done)
+
+array-share-prefix-starts-3 : tie.Need-array-share-prefix-starts-3
+array-share-prefix-starts-3 c = day-fits (given (at-floor c)) .starts
 
 slice-aggregate-floor : tie.Need-slice-aggregate-floor
 slice-aggregate-floor c = sym (starts-long (day-fits (given (at-floor (c .before)))))
@@ -112,27 +174,44 @@ array-share-prefix-requests-2 c = calls-fit (given (at-floor (c .before)))
 slice-aggregate-floor-2 : tie.Need-slice-aggregate-floor-2
 slice-aggregate-floor-2 c = sym (calls-long (given (at-floor (c .before .before))))
 
+slice-aggregate-floor-3 : tie.Need-slice-aggregate-floor-3
+slice-aggregate-floor-3 c = search needs
+
+slice-aggregate-floor-4 : tie.Need-slice-aggregate-floor-4
+slice-aggregate-floor-4 c = search needs
+
+slice-aggregate-floor-5 : tie.Need-slice-aggregate-floor-5
+slice-aggregate-floor-5 c = search needs
+
 floor-requires : tie.Need-floor-requires
 floor-requires c κs =
-    let g = given (at-floor (c .before .before)) in
-    record { places = _; metres = _; roads = sound-roads (day-sound g); asked = day-asked g }
+    let a = answered (c .before .before .before .before .before .before .before .before) in
+    let b = asked a .before in
+    let o = filled b in
+    let g = given (start o) in
+    let own = own-filled _ (room g) (o .fill-own .ensures) in
+    let done = a .serve-all .ensures _ _ (sound-roads (day-sound g)) (day-kept g (b .of-book .ensures) own) (day-called g) in
+    floor-given g done (omega (arith, a .serve-all .kept, own .planLong)) (omega (arith, a .serve-all .kept, own .weightsLong))
 
 returns : tie.Need-returns
 returns c =
-    let a = answered (c .before .before .before) in
-    let f = filled (a .before) in
-    let g = given (at-calls f) in
-    let kept = day-kept g (f .before .of-book .ensures) in
-    let ways = sound-roads (day-sound g) in
-    day-figures g
-    (a .serve-all .ensures _ _ ways kept (day-called g))
-    (c .floor .ensures _ _ ways (day-asked g))
+    let f = c .before .before .before in
+    let h = f .before .before .before .before .before .before in
+    let a = answered (h .before .before .before) in
+    let b = asked a .before in
+    let o = filled b in
+    let g = given (start o) in
+    let kept = day-kept g (b .of-book .ensures) (own-filled _ (room g) (o .fill-own .ensures)) in
+    let done = a .serve-all .ensures _ _ (sound-roads (day-sound g)) kept (day-called g) in
+    day-figures g done _ (last-lent g done _) (h .home .ensures) (f .floor .ensures)
 
 pub served-spec : {M : Type 1} → statement M
 served-spec =
     tie.close
     (tie.spec
     zeros-requires
+    slice-aggregate-fill-own
+    fill-own-requires
     slice-aggregate-of-book
     of-book-requires
     array-share-prefix-starts
@@ -148,9 +227,17 @@ served-spec =
     slice-aggregate-serve-all-8
     slice-aggregate-serve-all-9
     serve-all-requires
+    array-share-prefix-stands
+    slice-aggregate-home
     array-share-prefix-starts-2
+    slice-aggregate-home-2
+    home-requires
+    array-share-prefix-starts-3
     slice-aggregate-floor
     array-share-prefix-requests-2
     slice-aggregate-floor-2
+    slice-aggregate-floor-3
+    slice-aggregate-floor-4
+    slice-aggregate-floor-5
     floor-requires
     returns)

@@ -7,8 +7,7 @@ use lib.ListN.{length, set, length-set}
 use native.Mathlib.Omega.{arith}
 use Rattle.base.proofs.Tests.{one-more}
 use Rattle.road.specs.Table.{mostPlaces, metresOf, entry}
-use Rattle.book.specs.Book.{mostStops}
-use Rattle.dispatch.specs.Legs.{cell, followerRow, Costed, ColumnFilled}
+use Rattle.dispatch.specs.Legs.{planRoom, cell, followerRow, Costed, ColumnFilled}
 use Rattle.dispatch.proofs.legs.Laws.{cell-written, cell-kept}
 use Rattle.dispatch.proofs.legs.fill_column.Statement.{statement}
 use Rattle.dispatch.proofs.legs.fill_column.Tie as tie
@@ -27,21 +26,21 @@ module _ (to : ℕ → ℕ) (p : ℕ) (old : List ℕ) where
     done = record { column = λ x lt. absurd (omega arith); others = λ i q lt away. refl; rows = λ b lt. refl };
   }
 
-  column-turned : (now : List ℕ) (x v : ℕ) → Filling now x → p < mostStops → Costed old → x < mostPlaces → v ≡ to x
-      → Filling (set now (mostStops * (x + 1) + p) v) (x + 1)
+  column-turned : (now : List ℕ) (x v : ℕ) → Filling now x → p < planRoom → Costed old → x < mostPlaces → v ≡ to x
+      → Filling (set now (planRoom * x + p) v) (x + 1)
   unfolding followerRow
   column-turned now x v f col k lt e =
       let long = f .long in
       let fits = k .long in
       record {
         most = omega arith;
-        long = length-set now (mostStops * (x + 1) + p) v ∙ f .long;
+        long = length-set now (planRoom * x + p) v ∙ f .long;
         done = record {
-          column = one-more (λ y. cell (set now (mostStops * (x + 1) + p) v) (y + 1) p ≡ to y) x
-              (cell-written now (x + 1) p v col (omega arith) ∙ e)
-              (λ y h. cell-kept now (x + 1) p v col (y + 1) p col (λ s _. omega arith) ∙ f .done .column y h);
-          others = λ i q h away. cell-kept now (x + 1) p v col i q h (λ _ s. away s) ∙ f .done .others i q h away;
-          rows = λ b h. cell-kept now (x + 1) p v col (mostPlaces + 1) b h (λ s _. omega arith) ∙ f .done .rows b h;
+          column = one-more (λ y. cell (set now (planRoom * x + p) v) y p ≡ to y) x
+              (cell-written now x p v col (omega arith) ∙ e)
+              (λ y h. cell-kept now x p v col y p col (λ s _. omega arith) ∙ f .done .column y h);
+          others = λ i q h away. cell-kept now x p v col i q h (λ _ s. away s) ∙ f .done .others i q h away;
+          rows = λ b h. cell-kept now x p v col mostPlaces b h (λ s _. omega arith) ∙ f .done .rows b h;
         };
       }
 
@@ -57,14 +56,11 @@ loop-holds c = column-begun _ _ _
 metres-requires : tie.Need-metres-requires Inv-loop μ-loop
 metres-requires c κs = search needs
 
-add-costs : tie.Need-add-costs Inv-loop μ-loop
-add-costs c = search needs
-
 mul-costs : tie.Need-mul-costs Inv-loop μ-loop
 mul-costs c = search needs
 
-add-costs-2 : tie.Need-add-costs-2 Inv-loop μ-loop
-add-costs-2 c = search needs
+add-costs : tie.Need-add-costs Inv-loop μ-loop
+add-costs c = search needs
 
 mul-costs-2 : tie.Need-mul-costs-2 Inv-loop μ-loop
 mul-costs-2 c = search needs
@@ -100,9 +96,8 @@ fill-column-spec =
     μ-loop
     loop-holds
     metres-requires
-    add-costs
     mul-costs
-    add-costs-2
+    add-costs
     mul-costs-2
     slice-write-costs
     add-x

@@ -9,8 +9,7 @@ use Rattle.base.specs.Lists.{upTo}
 use Rattle.base.proofs.Tests.{one-more}
 use Rattle.road.specs.Table.{mostPlaces, metresOf, entry}
 use Rattle.workfunction.specs.Plan.{stops, place}
-use Rattle.book.specs.Book.{mostStops}
-use Rattle.dispatch.specs.Legs.{cell, followerRow, Costed, RowsFilled}
+use Rattle.dispatch.specs.Legs.{planRoom, cell, followerRow, Costed, RowsFilled}
 use Rattle.dispatch.proofs.legs.Laws.{lent, rowBack, length-row, row-new, row-kept}
 use Rattle.dispatch.proofs.legs.fill_rows.Statement.{statement}
 use Rattle.dispatch.proofs.legs.fill_rows.Tie as tie
@@ -29,27 +28,26 @@ module _ (read : ℕ → ℕ → ℕ) (starts calls old : List ℕ) where
   rows-begun = record {
     most = zero-le;
     long = refl;
-    done = record { metres = λ p x h lt. absurd (omega arith); free = λ p h. refl; rows = λ b h. refl };
+    done = record { metres = λ p x h lt. absurd (omega arith); rows = λ b h. refl };
   }
 
-  rows-turned : (now row : List ℕ) (x : ℕ) → Filling now x → n ≤ mostStops → Costed old → x < mostPlaces
-      → row ≡ upTo (length (lent now (x + 1) n)) (λ p. read (place starts calls p) x) → Filling (rowBack now (x + 1) n row) (x + 1)
+  rows-turned : (now row : List ℕ) (x : ℕ) → Filling now x → n ≤ planRoom → Costed old → x < mostPlaces
+      → row ≡ upTo (length (lent now x n)) (λ p. read (place starts calls p) x) → Filling (rowBack now x n row) (x + 1)
   unfolding followerRow
   rows-turned now row x f few k lt same =
       let g : ℕ → ℕ = λ p. read (place starts calls p) x in
       let long = f .long in
       let fits = k .long in
-      let at : mostStops * (x + 1) + n ≤ length now = omega arith in
-      let kept = row-kept now row (x + 1) n g at same few in
+      let at : planRoom * x + n ≤ length now = omega arith in
+      let kept = row-kept now row x n g at same few in
       record {
         most = omega arith;
-        long = length-row now row (x + 1) n g at same ∙ f .long;
+        long = length-row now row x n g at same ∙ f .long;
         done = record {
-          metres = λ p y h. one-more (λ z. cell (rowBack now (x + 1) n row) (z + 1) p ≡ read (place starts calls p) z) x
-              (row-new now row (x + 1) n g at same p h)
-              (λ z l. kept (z + 1) p (omega arith) (λ s. omega arith) ∙ f .done .metres p z h l) y;
-          free = λ p h. kept 0 p h (λ s. omega arith) ∙ f .done .free p h;
-          rows = λ b h. kept (mostPlaces + 1) b h (λ s. omega arith) ∙ f .done .rows b h;
+          metres = λ p y h. one-more (λ z. cell (rowBack now x n row) z p ≡ read (place starts calls p) z) x
+              (row-new now row x n g at same p h)
+              (λ z l. kept z p (omega arith) (λ s. omega arith) ∙ f .done .metres p z h l) y;
+          rows = λ b h. kept mostPlaces b h (λ s. omega arith) ∙ f .done .rows b h;
         };
       }
 
@@ -64,9 +62,6 @@ add-stops c = search needs
 
 loop-holds : tie.Need-loop-holds Inv-loop μ-loop
 loop-holds c = rows-begun _ _ _ _
-
-add-at : tie.Need-add-at Inv-loop μ-loop
-add-at c = search needs
 
 mul-at : tie.Need-mul-at Inv-loop μ-loop
 mul-at c = search needs
@@ -108,7 +103,7 @@ same-length c = search needs
 returns : tie.Need-returns Inv-loop μ-loop
 returns c =
     let f = c .before .loop .inv .done in
-    record { metres = λ p x h lt. f .metres p x h (omega arith); free = f .free; rows = f .rows }
+    record { metres = λ p x h lt. f .metres p x h (omega arith); rows = f .rows }
 
 pub fill-rows-spec : {M : Type 1} → statement M
 fill-rows-spec =
@@ -118,7 +113,6 @@ fill-rows-spec =
     μ-loop
     add-stops
     loop-holds
-    add-at
     mul-at
     add-fill-row
     mul-fill-row

@@ -22,7 +22,7 @@ module _ (places : List ℕ) (first : ℕ) (old : List ℕ) where
   put-begun k = record {
     most = zero-le;
     long = refl;
-    done = record { costed = k; put = λ i lt. absurd (omega arith); before = λ b lt. refl; cells = λ i p le lt. refl };
+    done = record { costed = k; put = λ i lt. absurd (omega arith); before = λ b lt. refl; cells = λ i p l lt. refl };
   }
 
   put-turned : (now now' : List ℕ) (i : ℕ) → Putting now i → i < length places → length now' ≡ length now
@@ -32,10 +32,10 @@ module _ (places : List ℕ) (first : ℕ) (old : List ℕ) where
     long = same ∙ f .long;
     done = record {
       costed = p .costed;
-      put = one-more (λ j. followerRow now' (first + j) ≡ getD places j 0 + 1) i (p .row)
+      put = one-more (λ j. followerRow now' (first + j) ≡ getD places j 0) i (p .row)
           (λ j h. p .others (first + j) (λ e. omega arith) ∙ f .done .put j h);
       before = λ b h. p .others b (λ e. omega arith) ∙ f .done .before b h;
-      cells = λ j q le h. p .cells j q le h ∙ f .done .cells j q le h;
+      cells = λ j q l h. p .cells j q l h ∙ f .done .cells j q l h;
     };
   }
 

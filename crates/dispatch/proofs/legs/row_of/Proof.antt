@@ -4,8 +4,7 @@ use mathlib.Core.Path.{refl}
 use borrow.Author.Needs.{needs}
 use native.Mathlib.Omega.{arith}
 use Rattle.road.specs.Table.{mostPlaces}
-use Rattle.book.specs.Book.{mostStops}
-use Rattle.dispatch.specs.Legs.{cell, followerRow}
+use Rattle.dispatch.specs.Legs.{planRoom, cell, followerRow}
 use Rattle.dispatch.proofs.legs.row_of.Statement.{statement}
 use Rattle.dispatch.proofs.legs.row_of.Tie as tie
 
@@ -19,7 +18,7 @@ shared-slice-read-result : tie.Need-shared-slice-read-result
 shared-slice-read-result c = search needs
 
 cast-result : tie.Need-cast-result
-cast-result c = omega (arith, c .shared-slice-known .given (mostStops * (mostPlaces + 1) + c .before .args .b))
+cast-result c = omega (arith, c .shared-slice-known .given (planRoom * mostPlaces + c .before .args .b))
 
 returns : tie.Need-returns
 unfolding cell followerRow

@@ -8,17 +8,16 @@ use lib.ListN.{length, take, drop}
 use native.Mathlib.Omega.{arith}
 use Rattle.base.specs.Lists.{upTo}
 use Rattle.base.proofs.Lists.{part-upTo}
-use Rattle.book.specs.Book.{mostStops}
-use Rattle.dispatch.specs.Legs.{cell, followerRow, legAt}
+use Rattle.dispatch.specs.Legs.{planRoom, cell, followerRow, legAt}
 use Rattle.dispatch.proofs.legs.row_to.Statement.{statement}
 use Rattle.dispatch.proofs.legs.row_to.Tie as tie
 
-part : (costs : List ℕ) (b end r : ℕ) → r ≡ followerRow costs b → mostStops * r + end ≤ length costs
-    → take (mostStops * r + end - mostStops * r) (drop (mostStops * r) costs) ≡ upTo end (λ p. legAt costs p b)
+part : (costs : List ℕ) (b end r : ℕ) → r ≡ followerRow costs b → planRoom * r + end ≤ length costs
+    → take (planRoom * r + end - planRoom * r) (drop (planRoom * r) costs) ≡ upTo end (λ p. legAt costs p b)
 unfolding cell legAt
 part costs b end r e fits =
-    let n : mostStops * r + end - mostStops * r ≡ end = omega arith in
-    rw (n, ← e) (part-upTo end costs (mostStops * r) 0 fits)
+    let n : planRoom * r + end - planRoom * r ≡ end = omega arith in
+    rw (n, ← e) (part-upTo end costs (planRoom * r) 0 fits)
 
 row-of-requires : tie.Need-row-of-requires
 row-of-requires c κs = search needs

@@ -33,7 +33,7 @@ slice-aggregate-of-book-2 c = search needs
 of-book-requires : tie.Need-of-book-requires
 of-book-requires c κs =
     let s = c .before .before .before .before in
-    record { places = s .pre .0; accepted = s .pre .1; netted = search needs; costed = c .before .before .zeros .ensures .costed }
+    record { places = s .pre .0; accepted = s .pre .1; netted = search needs; costed = c .before .before .zeros .ensures }
 
 slice-aggregate-lower : tie.Need-slice-aggregate-lower
 slice-aggregate-lower c = search needs

@@ -14,7 +14,8 @@ use Rattle.book.proofs.Sound.{Fits, starts-long, requests-long, sound-fits}
 use Rattle.dispatch.specs.Insertion.{Kept}
 use Rattle.dispatch.specs.Legs.{LegTable}
 use Rattle.dispatch.specs.Quote.{quoteRefusal}
-use Rattle.dispatch.proofs.Answered.{kept-witnessed}
+use Rattle.dispatch.proofs.Answered.{kept-few}
+use Rattle.dispatch.proofs.Taken.{kept-witnessed}
 use Rattle.dispatch.proofs.Called.{Called, quote-called}
 use Rattle.dispatch.proofs.Carried.{sound-given, sound-kept}
 use Rattle.dispatch.proofs.Roads.{sound-roads}
@@ -103,7 +104,10 @@ find-requires c κs =
     let s = begun f in
     let k = called s .sound .counts in
     let day = kept s (s .pre .places) (s .pre .accepted) (f .of-book .ensures) in
-    let w = kept-witnessed (sound-roads (called s .sound)) day (room s) (called s .on) (call-last (arrays s) (called s) (e .extend .ensures)) in
+    let few = kept-few day (room s) in
+    let w = kept-witnessed (sound-roads (called s .sound) .legible) day (omega arith) (le-trans few (day .planLong)) (called s .on)
+    (call-last (arrays s) (called s) (e .extend .ensures))
+    in
     record {
       cranes = omega arith;
       netted = omega (arith, s .pre .netted);

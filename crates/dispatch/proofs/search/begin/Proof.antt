@@ -8,8 +8,7 @@ use lib.ListN.{length, set}
 use lib.Seq.{getD-set-same, getD-set-other}
 use native.Mathlib.Omega.{arith}
 use Rattle.base.proofs.Lists.{Filled, fill-begun, fill-turned, filled-at}
-use Rattle.book.specs.Book.{mostStops}
-use Rattle.dispatch.specs.Legs.{legAt}
+use Rattle.dispatch.specs.Legs.{planRoom, legAt}
 use Rattle.dispatch.specs.Search.{at, netBase, Begun}
 use Rattle.dispatch.proofs.search.begin.Statement.{statement}
 use Rattle.dispatch.proofs.search.begin.Tie as tie
@@ -18,7 +17,7 @@ use Rattle.dispatch.proofs.search.begin.Tie as tie
 record Beginning (new : ℕ) (row : ℕ → ℕ) (totals₀ parents₀ ranks₀ totals parents ranks : List ℕ) (p : ℕ) : Type 0 where
   totalled : Filled (λ v. netBase + row v) totals₀ (new + 1) totals p
   parented : Filled (λ v. new) parents₀ (new + 1) parents p
-  ranked : Filled (λ v. mostStops) ranks₀ (new + 1) ranks p
+  ranked : Filled (λ v. planRoom) ranks₀ (new + 1) ranks p
 
 begun-by : {new : ℕ} {row : ℕ → ℕ} {totals₀ parents₀ ranks₀ totals parents ranks : List ℕ} {p : ℕ}
     → Beginning new row totals₀ parents₀ ranks₀ totals parents ranks p → new < length ranks₀ → new < p

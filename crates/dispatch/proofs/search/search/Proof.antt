@@ -27,7 +27,7 @@ module _ {k N : ℕ} {plan : List ℕ} {weights : List ℤ} {costs : List ℕ} (
 
   in-range : {totals parents ranks : List ℕ} → Sized N plan costs totals parents ranks → Weighed N plan weights
   in-range sized = record {
-    followed = record { most = le-of-lt (w .few); planned = le-of-lt (sized .planned); weighed = w .weighed; below = below };
+    followed = record { most = omega arith; planned = le-of-lt (sized .planned); weighed = w .weighed; below = below };
     ranged = below-at _ N (w .certified .ranged);
   }
 

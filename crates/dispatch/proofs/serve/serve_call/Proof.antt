@@ -9,7 +9,8 @@ use Rattle.road.specs.Table.{mostPlaces}
 use Rattle.dayfile.specs.Day.{mostCranes}
 use Rattle.workfunction.specs.Plan.{stops}
 use Rattle.book.specs.Book.{mostStops}
-use Rattle.dispatch.proofs.Answered.{kept-few, kept-witnessed, served-below, call-answered, unmoved-set}
+use Rattle.dispatch.proofs.Answered.{kept-few, call-answered, unmoved-set}
+use Rattle.dispatch.proofs.Taken.{kept-witnessed, served-below}
 use Rattle.dispatch.proofs.serve.serve_call.Statement.{statement}
 use Rattle.dispatch.proofs.serve.serve_call.Tie as tie
 
@@ -24,9 +25,12 @@ extended i = i .before .before .before .before .before .before
 room : (a : tie.Start) → stops (a .args .starts .now) (a .args .calls .now) < mostStops
 room a = kept-few (a .pre .kept) (a .pre .space)
 
+long : (a : tie.Start) → stops (a .args .starts .now) (a .args .calls .now) < length (a .args .plan .now)
+long a = le-trans (room a) (a .pre .kept .planLong)
+
 -- the call is at a place that has a row
 on-road : (a : tie.Start) → a .args .place < mostPlaces
-on-road a = le-trans (a .pre .on) (a .pre .roads .few)
+on-road a = le-trans (a .pre .on) (a .pre .roads .legible .few)
 
 -- the crane sent is one of the cranes
 sent : (i : tie.After-insert) → i .insert .result < length (begun (extended i) .args .starts .now)
@@ -44,22 +48,23 @@ add-new c = search needs
 extend-requires : tie.Need-extend-requires
 extend-requires c κs =
     let a = c .before .before .before .before .before .before .before in
-    (room a, (on-road a, a .pre .kept .table .costed))
+    (omega (arith, room a), (on-road a, a .pre .kept .table .costed))
 
 insert-requires : tie.Need-insert-requires
 insert-requires c κs =
     let e = c .before .before .before .before .before in
     let p = begun e .pre in
     let k = p .kept in
+    let few = room (begun e) in
     record {
       crane = k .asked .day .crane;
       cranes = k .asked .cranes;
       stops = omega arith;
       ends = p .ends;
-      planLong = k .planLong;
-      weightsLong = k .weightsLong;
+      planLong = long (begun e);
+      weightsLong = le-trans few (k .weightsLong);
       costed = e .extend .ensures .costed;
-      witnessed = kept-witnessed (p .roads) k (p .space) (p .on) (e .extend .ensures);
+      witnessed = kept-witnessed (p .roads .legible) k (omega arith) (long (begun e)) (p .on) (e .extend .ensures);
     }
 
 mul-metres : tie.Need-mul-metres
@@ -117,7 +122,7 @@ cost-requires c κs =
       few = omega arith;
       planned = search needs;
       costed = c .before .before .before .before .put .ensures .costed;
-      below = served-below (p .roads) (p .kept) (p .space) (p .on) (e .extend .ensures) (i .insert .ensures .taken);
+      below = served-below (p .roads .legible) (p .kept) (omega arith) (long (begun e)) (p .on) (e .extend .ensures) (i .insert .ensures .taken);
     }
 
 same-length : tie.Need-same-length
@@ -143,11 +148,11 @@ returns c =
     let taken = i .insert .ensures in
     record {
       answered = λ n d roads kept asked.
-          call-answered roads kept (a .pre .space) asked (e .extend .ensures)
+          call-answered roads kept (room a) (long a) asked (e .extend .ensures)
           (i .insert .last .1 .1 .1 .1 .0) (i .insert .last .1 .1 .1 .1 .1 .0) (w .put .last .1 .1 .0)
           (taken .taken) (w .put .ensures)
           (omega (arith, i .insert .kept, k .planLong)) (omega (arith, i .insert .kept, k .weightsLong))
-          (taken .chosen) (m .metres .ensures) (c .cost .ensures);
+          (a .pre .space) (taken .chosen) (m .metres .ensures) (c .cost .ensures);
       unmoved = unmoved-set (i .insert .result) (omega (arith, sent i)) (taken .unmoved);
     }
 

@@ -1,4 +1,4 @@
--- `report::text::put_last` meets its contract: the two fields are written one behind the other, then the line feed.
+-- `report::text::put_last` meets its contract: the three fields are written one behind the other, then the line feed.
 -- Assumes nothing.
 use Prim.Native.Nat.{_≤_}
 use borrow.Author.Needs.{needs}
@@ -11,8 +11,9 @@ use Rattle.report.proofs.text.Laws.{put-on}
 use Rattle.report.proofs.text.put_last.Statement.{statement}
 use Rattle.report.proofs.text.put_last.Tie as tie
 
-short : (c : tie.Start) → (length (decimal (c .args .driven)) ≤ 20) × (length (decimal (c .args .floor)) ≤ 20)
-short c = (length-decimal (c .args .driven), length-decimal (c .args .floor))
+short : (c : tie.Start) → let a = c .args in
+    (length (decimal (a .driven)) ≤ 20) × (length (decimal (a .home)) ≤ 20) × (length (decimal (a .floor)) ≤ 20)
+short c = let a = c .args in (length-decimal (a .driven), length-decimal (a .home), length-decimal (a .floor))
 
 slice-aggregate-put-field : tie.Need-slice-aggregate-put-field
 slice-aggregate-put-field c = search needs
@@ -26,11 +27,17 @@ slice-aggregate-put-field-2 c = search needs
 put-field-requires-2 : tie.Need-put-field-requires-2
 put-field-requires-2 c κs = omega (arith, short (c .before .before .before .before .before .before .before .before))
 
+slice-aggregate-put-field-3 : tie.Need-slice-aggregate-put-field-3
+slice-aggregate-put-field-3 c = search needs
+
+put-field-requires-3 : tie.Need-put-field-requires-3
+put-field-requires-3 c κs = omega (arith, short (c .before .before .before .before .before .before .before .before .before .before .before .before .before))
+
 slice-aggregate-put : tie.Need-slice-aggregate-put
 slice-aggregate-put c = search needs
 
 put-requires : tie.Need-put-requires
-put-requires c κs = omega (arith, short (c .before .before .before .before .before .before .before .before .before .before .before .before .before))
+put-requires c κs = omega (arith, short (c .before .before .before .before .before .before .before .before .before .before .before .before .before .before .before .before .before .before))
 
 same-length : tie.Need-same-length
 same-length c = search needs
@@ -38,11 +45,14 @@ same-length c = search needs
 returns : tie.Need-returns
 unfolding lastLine
 returns c =
-    let second = c .before .before .before .before .before .before .before in
-    let first = second .before .before .before .before .before in
+    let floor = c .before .before .before .before .before .before .before in
+    let home = floor .before .before .before .before .before in
+    let first = home .before .before .before .before .before in
     let most = short (first .before .before .before .before) in
-    put-on (put-on (first .put-field .ensures) (second .put-field2 .ensures) (omega arith))
-    (c .before .before .put .ensures) (omega arith)
+    put-on
+    (put-on (put-on (first .put-field .ensures) (home .put-field2 .ensures) (omega arith)) (floor .put-field3 .ensures) (omega arith))
+    (c .before .before .put .ensures)
+    (omega arith)
 
 pub put-last-spec : {M : Type 1} → statement M
 put-last-spec =
@@ -52,6 +62,8 @@ put-last-spec =
     put-field-requires
     slice-aggregate-put-field-2
     put-field-requires-2
+    slice-aggregate-put-field-3
+    put-field-requires-3
     slice-aggregate-put
     put-requires
     same-length

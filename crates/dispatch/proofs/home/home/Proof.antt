@@ -1,0 +1,96 @@
+-- `dispatch::home::home` meets its contract: at first each stand is followed by itself, and such a plan may have its ends moved to the
+-- starts. Assumes nothing.
+use Prim.Native.Nat.{ℕ, _<_}
+use mathlib.Core.Path.{_≡_, refl, _∙_}
+use borrow.Author.Needs.{needs}
+use native.Mathlib.Nat.{le-trans, not-suc-le-zero}
+use native.Mathlib.Omega.{arith}
+use Rattle.road.specs.Table.{metresOf, entry}
+use Rattle.road.proofs.Table.{entry-in as read-in, metres-self}
+use Rattle.workfunction.proofs.Sums.{entry-in}
+use Rattle.dispatch.proofs.LegTable.{table-over}
+use Rattle.dispatch.proofs.ends.Laws.{own-filled, own-kept, kept-movable}
+use Rattle.dispatch.proofs.home.home.Statement.{statement}
+use Rattle.dispatch.proofs.home.home.Tie as tie
+
+-- the place of the code where it begins
+abbrev start : tie.After-costs → tie.Start
+start c = c .before .before .before .before .before .before .before .before .before
+
+zeros-requires : tie.Need-zeros-requires
+zeros-requires c κs = search needs
+
+slice-aggregate-fill-own : tie.Need-slice-aggregate-fill-own
+slice-aggregate-fill-own c = search needs
+
+fill-own-requires : tie.Need-fill-own-requires
+fill-own-requires c κs = search needs
+
+slice-aggregate-fill : tie.Need-slice-aggregate-fill
+slice-aggregate-fill c = search needs
+
+slice-aggregate-fill-2 : tie.Need-slice-aggregate-fill-2
+slice-aggregate-fill-2 c = search needs
+
+fill-requires : tie.Need-fill-requires
+fill-requires c κs =
+    let z = c .before .before .before .before .before in
+    let p = start c .pre in
+    record {
+      aligned = refl;
+      few = omega (arith, p .asked .cranes);
+      stood = λ i h. le-trans (p .asked .day .started .placed (entry-in _ i h)) (p .legible .few);
+      called = λ i h. absurd (not-suc-le-zero h);
+      costed = z .zeros .ensures;
+    }
+
+slice-aggregate-least : tie.Need-slice-aggregate-least
+slice-aggregate-least c = search needs
+
+slice-aggregate-least-2 : tie.Need-slice-aggregate-least-2
+slice-aggregate-least-2 c = search needs
+
+slice-aggregate-least-3 : tie.Need-slice-aggregate-least-3
+slice-aggregate-least-3 c = search needs
+
+slice-aggregate-least-4 : tie.Need-slice-aggregate-least-4
+slice-aggregate-least-4 c = search needs
+
+least-requires : tie.Need-least-requires
+least-requires c κs =
+    let f = c .before .before .before .before .before in
+    let o = f .before .before .before .before in
+    let s = o .before .before .before .before .before .before in
+    let p = s .pre in
+    let own = own-filled _ (omega (arith, p .asked .cranes)) (o .fill-own .ensures) in
+    let legs = table-over (f .fill .ensures) (p .legible .few) (λ q x h l. refl) in
+    let t = s .args .table .now in
+    let self : (u : ℕ) → u < p .places → entry (metresOf t) u u ≡ 0 =
+    λ u h. let on = le-trans h (p .legible .few) in read-in (metresOf t) u u on on ∙ metres-self t u u refl
+    in
+    record {
+      places = p .places;
+      stands = s .args .stands .now;
+      movable = kept-movable (p .legible) (own-kept self (p .asked) legs own) (own .planLong) (own .weightsLong);
+      ending = p .ending;
+    }
+
+returns : tie.Need-returns
+returns c = search needs
+
+pub home-spec : {M : Type 1} → statement M
+home-spec =
+    tie.close
+    (tie.spec
+    zeros-requires
+    slice-aggregate-fill-own
+    fill-own-requires
+    slice-aggregate-fill
+    slice-aggregate-fill-2
+    fill-requires
+    slice-aggregate-least
+    slice-aggregate-least-2
+    slice-aggregate-least-3
+    slice-aggregate-least-4
+    least-requires
+    returns)

@@ -1,0 +1,31 @@
+// The way home: the least cost of all plans without calls from the stands to the starts, which is their distance.
+use crate::ends;
+use crate::legs;
+use crate::plan;
+ghost use mathlib.Core.List.{[]};
+ghost use mathlib.Core.Path.{_≡_};
+ghost use lib.ListN.{length};
+ghost use Rattle.road.specs.Table.{metresOf, entry};
+ghost use Rattle.workfunction.specs.Plan.{stops, legCost, leastPlan};
+ghost use Rattle.dispatch.specs.Insertion.{HomeGiven};
+
+// At first each stand is followed by itself.
+pub(crate) fn home(table: &[u32], stands: &[u16], starts: &[u16]) -> u64
+    requires { ⌜ HomeGiven (entry (metresOf (now table))) (now stands) (now starts) ⌝ }
+    ensures { λ r. ⌜ r ≡ leastPlan (length (now (stands .entry))) (stops (now (stands .entry)) []) (legCost (entry (metresOf (now (table .entry)))) (now (stands .entry)) [] (now (starts .entry))) ⌝ }
+{
+    let mut costs = legs::zeros();
+    let mut plan = [0; legs::ROOM];
+    let mut weights = [0; legs::ROOM];
+    plan::fill_own(stands.len(), &mut plan[..]);
+    legs::fill(table, stands, &stands[..0], stands, &mut costs[..]);
+    ends::least(
+        table,
+        stands,
+        &stands[..0],
+        starts,
+        &mut plan[..],
+        &mut weights[..],
+        &mut costs[..],
+    )
+}
