@@ -1,5 +1,5 @@
 // A plain program for the print of `desk`: a second opinion on what is printed, and the opponent when `desk` is timed. It shares
-// no code with the crates, and nothing is proved of it; its method is theirs, one search for each call.
+// no code with the crates, and nothing is proved of it; its method is theirs, one search for each call and each way home.
 use std::fmt::Write as _;
 use std::fs::File;
 use std::io::{self, Read, Write as _};
@@ -13,9 +13,6 @@ const RECORD: usize = 12;
 const LONGEST_FILE: usize = RECORD * (PLACES * (PLACES - 1) / 2 + CRANES + CALLS);
 
 type Row = [u32; PLACES];
-
-// The ends of the floor's plan: any place will do, so that every way to them is 0.
-static ANYWHERE: Row = [0; PLACES];
 
 // The number of the broken rule, and the index of the record that breaks it.
 struct Refusal(u32, usize);
@@ -193,14 +190,30 @@ impl<'a> Plan<'a> {
     }
 
     // Takes in a call, followed by the end for which chain and way from the call come cheapest together; among equals the
-    // shortest way, then the lowest number. Answers the end and the way.
+    // shortest way, then the lowest number. That end is then at the call. Answers the end and the way.
     fn insert(&mut self, place: u8, row: &'a Row) -> (usize, u32) {
         self.search(row);
         let way = |end: usize| self.rows[end][place as usize];
         let rank = |&end: &usize| (way(end) as i64 - self.weight[end], way(end));
         let end = (0..self.cranes).min_by_key(rank).unwrap();
         let metres = way(end);
+        self.flip(end, place, row);
+        (end, metres)
+    }
 
+    // The cheapest cost once every end is at its place of a list: each takes in a call there. The calls cost nothing more, because all
+    // may go there at once and stay.
+    fn cost_at(&mut self, ends: &[u8], table: &'a [Row]) -> u64 {
+        for (end, &place) in ends.iter().enumerate() {
+            let row = &table[place as usize];
+            self.search(row);
+            self.flip(end, place, row);
+        }
+        self.cost()
+    }
+
+    // Takes in a call for an end, along the chain that the search has left; the end is then at the call.
+    fn flip(&mut self, end: usize, place: u8, row: &'a Row) {
         let mut stop = self.follower.iter().position(|&b| b == end).unwrap();
         let new = self.places.len();
         self.places.push(place);
@@ -212,7 +225,8 @@ impl<'a> Plan<'a> {
             self.follower.swap(stop, self.via[stop]);
             stop = self.via[stop];
         }
-        (end, metres)
+        self.rows[end] = row;
+        self.weight[end] = 0;
     }
 
     // Dijkstra's search over chains of changes: the first stop of a chain takes the new follower, each further one the follower
@@ -284,11 +298,11 @@ fn serve(day: &Day) -> String {
     let row = |place: &u8| &day.table[*place as usize];
     let mut text = String::with_capacity(64 * (day.calls.len() + 1));
     let mut plan = Plan::new(&day.starts, day.starts.iter().map(row).collect());
+    let mut stands = day.starts.clone();
     let mut driven = 0;
     for (call, place) in day.calls.iter().enumerate() {
         let (crane, metres) = plan.insert(*place, row(place));
-        plan.rows[crane] = row(place);
-        plan.weight[crane] = 0;
+        stands[crane] = *place;
         driven += metres;
         writeln!(
             text,
@@ -297,11 +311,10 @@ fn serve(day: &Day) -> String {
         )
         .unwrap();
     }
-    let mut free = Plan::new(&day.starts, vec![&ANYWHERE; day.starts.len()]);
-    for place in &day.calls {
-        free.insert(*place, row(place));
-    }
-    writeln!(text, "driven {driven} floor {}", free.cost()).unwrap();
+    let mut ways = Plan::new(&stands, stands.iter().map(row).collect());
+    let home = ways.cost_at(&day.starts, &day.table);
+    let floor = plan.cost_at(&day.starts, &day.table);
+    writeln!(text, "driven {driven} home {home} floor {floor}").unwrap();
     text
 }
 

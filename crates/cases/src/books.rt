@@ -246,4 +246,5 @@ pub(crate) fn fresh(table: &[u32], broken: &[u32], short: &[u32]) {
     ask(shorter.book, 3, table, 0, 0);
     line::begin(28);
     ask(calls::filled(book, table), 3, table, 0, 0);
+    ask(calls::sent(&[7]), 2, &[7], 0, 0);
 }

@@ -57,6 +57,17 @@ pub(crate) fn filled(fresh: Book, table: &[u32]) -> Book {
     grown.book
 }
 
+// A book of sixteen cranes at place 0 after 256 calls at place 1, to which they are sent one after another.
+pub(crate) fn sent(table: &[u32]) -> Book {
+    let opening = Book::fresh(days::day(2, 16, 0, 0, 0), table);
+    let mut book = opening.book;
+    for i in 0..Book::CALLS {
+        let commit = Dispatch::commit(book, 2, table, 1, i % Book::CRANES);
+        book = commit.book;
+    }
+    book
+}
+
 // Prints the net costs of a call at a place: the number, those of cranes 0 and 1, and whether all past them are 0, 1 or 0.
 fn net_costs(book: Book, table: &[u32], place: u16) {
     let told = Dispatch::net_costs(book, 3, table, place);
@@ -79,7 +90,7 @@ fn quote(book: Book, table: &[u32]) {
     line::comma();
 }
 
-// Prints the commit of a crane to a call at a place: the number, the least, and the least of the costs of the book that it returns.
+// Prints the commit of a crane to a call at a place: the number, the least, and both costs of the book that it returns.
 fn commit(book: Book, table: &[u32], place: u16, crane: usize) -> Book {
     let commit = Dispatch::commit(book, 3, table, place, crane);
     let verdict = commit.verdict;
@@ -88,6 +99,7 @@ fn commit(book: Book, table: &[u32], place: u16, crane: usize) -> Book {
     let after = commit.book;
     let costs = Dispatch::costs(after, 3, table);
     line::number(costs.least);
+    line::number(costs.floor);
     after
 }
 
@@ -146,7 +158,7 @@ fn metres(book: Book) {
     line::comma();
 }
 
-// After the last call: the metres by the quoted crane, and by crane 0. Then the sum of the served day.
+// After the last call: the metres by the quoted crane, and by crane 0. Then the sum of the drives, the way home and the floor of the served day.
 pub(crate) fn driven(table: &[u32]) {
     let book = before_last(table);
     let quoted = grow(ungrown(book), table, 1);
@@ -156,5 +168,7 @@ pub(crate) fn driven(table: &[u32]) {
     metres(quoted.book);
     metres(other.book);
     line::number(served.driven);
+    line::number(served.home);
+    line::number(served.floor);
     line::comma();
 }

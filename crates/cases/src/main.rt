@@ -83,12 +83,12 @@ Books: the number of the test; the number of the costs, least and floor; the num
 25 3 before 6: no place, three by 2 numbers and 4; 6 before 7 before 4 before 5 before 8 before 9 before 10 before 13, then 5 before 12 before 7
 26 one crane: crane 0, crane 1 and the highest number; sixteen: crane 15 and crane 16
 27 a fresh one, that of a day refused by 8, and by 3
-28 a book filled, quotes and commits accepted, and one more
-Case A before its last call: the number of the net costs, those of cranes 0 and 1, and whether the rest are 0; the number of the quote, crane, metres and least; the number of a commit, its least, and the least of its book.
+28 a book filled, quotes and commits accepted, and one more; sixteen cranes sent 7 metres away by 256 calls
+Case A before its last call: the number of the net costs, those of cranes 0 and 1, and whether the rest are 0; the number of the quote, crane, metres and least; the number of a commit, its least, and the least and the floor of its book.
 29 the net costs, and those of place 3; the quote; cranes 0, 1 and 2; crane 2 to place 3
 30 with entries past the counts that break every rule: the net costs; the quote; cranes 0 and 1, and whether the book is that of 29 and is 0 past its counts
 Case A after its last call: the metres of cranes 0 and 1, and their sum.
-31 the quoted crane; crane 0; the sum of the served day
+31 the quoted crane; crane 0; of the served day the sum, the way home and the floor
 Prints: the text of the print, then of the sheet, and whether all bytes past each are 0.
 32 case A; one place and one crane; the same and a call
 33 an empty file; 13 bytes; legs missing; legs 10, 26, 15
