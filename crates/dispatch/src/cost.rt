@@ -23,11 +23,9 @@ pub(crate) fn accepted(book: Book, table: &[u32]) -> Costs
     let kept = book.plan;
     let vouching = book.weights;
     let stops = book.cranes + book.calls;
+    let mut plan = plan::copy(stops, &kept[..]);
+    let mut weights = weights::copy(stops, &vouching[..]);
     let mut costs = legs::zeros();
-    let mut plan = [0; legs::ROOM];
-    let mut weights = [0; legs::ROOM];
-    plan::copy(stops, &kept[..], &mut plan[..]);
-    weights::copy(stops, &vouching[..], &mut weights[..]);
     legs::of_book(book, table, &mut costs[..]);
     let least = plan::cost(stops, &plan[..], &costs[..]);
     let floor = floor::floor(

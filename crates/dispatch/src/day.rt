@@ -5,6 +5,7 @@ use crate::home;
 use crate::legs;
 use crate::plan;
 use crate::serve;
+use crate::weights;
 use base::Verdict;
 use book::Book;
 use dayfile::Day;
@@ -39,13 +40,12 @@ pub(crate) fn served(day: Day, fresh: Book, table: &[u32]) -> ServedDay
     let starts = fresh.starts;
     let requests = day.requests;
     let mut stands = fresh.stands;
-    let mut plan = [0; legs::ROOM];
-    let mut weights = [0; legs::ROOM];
+    let mut plan = plan::own(cranes);
+    let mut weights = weights::zeros();
     let mut costs = legs::zeros();
     let mut sent = [0; Book::CALLS];
     let mut metres = [0; Book::CALLS];
     let mut leasts = [0; Book::CALLS];
-    plan::fill_own(cranes, &mut plan[..]);
     legs::of_book(fresh, table, &mut costs[..]);
     let driven = serve::serve_all(
         table,

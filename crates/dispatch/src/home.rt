@@ -2,6 +2,7 @@
 use crate::ends;
 use crate::legs;
 use crate::plan;
+use crate::weights;
 ghost use mathlib.Core.List.{[]};
 ghost use mathlib.Core.Path.{_≡_};
 ghost use lib.ListN.{length};
@@ -15,9 +16,8 @@ pub(crate) fn home(table: &[u32], stands: &[u16], starts: &[u16]) -> u64
     ensures { λ r. ⌜ r ≡ leastPlan (length (now (stands .entry))) (stops (now (stands .entry)) []) (legCost (entry (metresOf (now (table .entry)))) (now (stands .entry)) [] (now (starts .entry))) ⌝ }
 {
     let mut costs = legs::zeros();
-    let mut plan = [0; legs::ROOM];
-    let mut weights = [0; legs::ROOM];
-    plan::fill_own(stands.len(), &mut plan[..]);
+    let mut plan = plan::own(stands.len());
+    let mut weights = weights::zeros();
     legs::fill(table, stands, &stands[..0], stands, &mut costs[..]);
     ends::least(
         table,

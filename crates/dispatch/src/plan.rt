@@ -1,37 +1,41 @@
-// The cost of a plan, and its followers as a list: that from which a plan without calls begins, a copy, one follower in another's place.
+// The cost of a plan, and lists of followers: that of a plan without calls, a copy, one follower in another's place.
 use crate::legs;
 ghost use mathlib.Core.List.{_++_};
 ghost use mathlib.Core.Path.{_≡_};
 ghost use Prim.Native.Nat.{_≤_};
 ghost use lib.ListN.{length, drop};
-ghost use Rattle.base.specs.Lists.{upTo};
+ghost use Rattle.base.specs.Lists.{upTo, padded};
 ghost use Rattle.workfunction.specs.Plan.{planCost};
-ghost use Rattle.book.specs.Book.{mostStops, follower};
-ghost use Rattle.dispatch.specs.Legs.{legAt, CostGiven};
+ghost use Rattle.book.specs.Book.{follower};
+ghost use Rattle.dispatch.specs.Legs.{planRoom, legAt, CostGiven};
 ghost use Rattle.dispatch.specs.Insertion.{instead as Insertion·instead};
 
-// Each entry below a count is its own number: without a call, each start is followed by its own end.
-pub(crate) fn fill_own(count: usize, list: &mut [u16])
-    requires { ⌜ (count ≤ mostStops) × (count ≤ length (now list)) ⌝ }
-    ensures { λ _. ⌜ now (list .exit) ≡ upTo count (λ i. i) ++ drop count (now (list .entry)) ⌝ }
+// The list in which each entry below a count is its own number: without a call, each start is followed by its own end.
+pub(crate) fn own(count: usize) -> [u16; legs::ROOM]
+    requires { ⌜ count ≤ planRoom ⌝ }
+    ensures { λ r. ⌜ r ≡ padded planRoom count (λ i. i) 0 ⌝ }
 {
+    let mut list = [0; legs::ROOM];
     let mut i = 0;
     while i < count {
         list[i] = i as u16;
         i += 1;
     }
+    list
 }
 
-// The entries below a count are those of another list.
-pub(crate) fn copy(count: usize, from: &[u16], list: &mut [u16])
-    requires { ⌜ (count ≤ length (now from)) × (count ≤ length (now list)) ⌝ }
-    ensures { λ _. ⌜ now (list .exit) ≡ upTo count (follower (now (from .entry))) ++ drop count (now (list .entry)) ⌝ }
+// The list whose entries below a count are those of another one.
+pub(crate) fn copy(count: usize, from: &[u16]) -> [u16; legs::ROOM]
+    requires { ⌜ (count ≤ planRoom) × (count ≤ length (now from)) ⌝ }
+    ensures { λ r. ⌜ r ≡ padded planRoom count (follower (now (from .entry))) 0 ⌝ }
 {
+    let mut list = [0; legs::ROOM];
     let mut i = 0;
     while i < count {
         list[i] = from[i];
         i += 1;
     }
+    list
 }
 
 // Of a follower: the new one where it is the old one.

@@ -168,8 +168,7 @@ pub(crate) fn search(
 {
     let mut heads = [0; legs::ROOM];
     fill_heads(new, plan, weights, costs, &mut heads[..]);
-    let mut stops = [0; legs::ROOM];
-    plan::fill_own(new, &mut stops[..]);
+    let mut stops = plan::own(new);
     begin(new, costs, totals, parents, ranks);
     rounds(
         cranes,

@@ -1,13 +1,13 @@
-// The weights, the dual variables: new ones from net costs, and a copy.
+// The weights, the dual variables: new ones from net costs, those of a plan without calls, and a copy.
 use crate::legs;
 use crate::search;
-ghost use mathlib.Core.List.{_++_};
 ghost use mathlib.Core.Path.{_≡_};
 ghost use Prim.Native.Nat.{_≤_};
-ghost use lib.ListN.{length, drop};
-ghost use Rattle.base.specs.Lists.{upTo};
+ghost use lib.IntN.{pos};
+ghost use lib.ListN.{length, replicate};
+ghost use Rattle.base.specs.Lists.{padded};
 ghost use Rattle.book.specs.Book.{follower, weight};
-ghost use Rattle.dispatch.specs.Legs.{legAt};
+ghost use Rattle.dispatch.specs.Legs.{planRoom, legAt};
 ghost use Rattle.dispatch.specs.Search.{at, netOf, RenewGiven, Reweighed};
 
 // The new weights: of each stop's follower the opposite of the net cost of freeing it.
@@ -24,14 +24,23 @@ pub(crate) fn renew(new: usize, plan: &[u16], totals: &[u64], costs: &[u32], wei
     }
 }
 
-// The weights below a count are those of another list.
-pub(crate) fn copy(count: usize, from: &[i64], list: &mut [i64])
-    requires { ⌜ (count ≤ length (now from)) × (count ≤ length (now list)) ⌝ }
-    ensures { λ _. ⌜ now (list .exit) ≡ upTo count (weight (now (from .entry))) ++ drop count (now (list .entry)) ⌝ }
+// Weights of 0.
+pub(crate) fn zeros() -> [i64; legs::ROOM]
+    ensures { λ r. ⌜ r ≡ replicate planRoom (pos 0) ⌝ }
 {
+    [0; legs::ROOM]
+}
+
+// The weights that below a count are those of another list, and 0 from there on.
+pub(crate) fn copy(count: usize, from: &[i64]) -> [i64; legs::ROOM]
+    requires { ⌜ (count ≤ planRoom) × (count ≤ length (now from)) ⌝ }
+    ensures { λ r. ⌜ r ≡ padded planRoom count (weight (now (from .entry))) (pos 0) ⌝ }
+{
+    let mut list = [0; legs::ROOM];
     let mut b = 0;
     while b < count {
         list[b] = from[b];
         b += 1;
     }
+    list
 }

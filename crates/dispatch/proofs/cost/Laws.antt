@@ -1,13 +1,13 @@
 -- The plan and the weights of a sound book, copied into the room of a plan at work: it is a day under way whose ends may be moved, and what
 -- its two costs are. Assumes nothing.
 use Prim.Native.Nat.{ℕ, _<_, _≤_}
-use mathlib.Core.List.{List, _++_}
+use mathlib.Core.List.{List}
 use mathlib.Core.Path.{_≡_, sym, ap, _∙_}
 use lib.IntN.{ℤ, pos}
-use lib.ListN.{length, drop, replicate, length-append, length-drop, length-replicate}
+use lib.ListN.{length}
 use native.Mathlib.Omega.{arith}
-use Rattle.base.specs.Lists.{upTo}
-use Rattle.base.proofs.Lists.{length-upTo, getD-front}
+use Rattle.base.specs.Lists.{padded}
+use Rattle.base.proofs.Lists.{length-padded, getD-padded}
 use Rattle.road.specs.Table.{Table, mostPlaces, metresOf, entry}
 use Rattle.workfunction.specs.Movement.{work, floor}
 use Rattle.workfunction.specs.Plan.{planCost, stops, legCost, leastPlan}
@@ -22,29 +22,25 @@ use Rattle.dispatch.proofs.Carried.{sound-kept}
 use Rattle.dispatch.proofs.Roads.{sound-roads}
 use Rattle.dispatch.proofs.ends.Laws.{kept-copied, kept-movable, movable-least, ends-work, ends-floor}
 
--- a copy with its rest
-length-copied : {A : Type 0} (m n : ℕ) (f : ℕ → A) (z : A) → n ≤ m → length (upTo n f ++ drop n (replicate m z)) ≡ m
-length-copied m n f z few = simp (length-append, length-upTo, length-drop, length-replicate) (omega arith)
-
 module _ {book : Book} {n : ℕ} {t : Table} (arrays : BookArrays book) (s : Sound book n t) (planLong : mostStops ≤ length (book .plan))
     (weightsLong : mostStops ≤ length (book .weights)) {plan : List ℕ} {weights : List ℤ} {costs : List ℕ}
-    (followers : plan ≡ upTo (stopsOf book) (follower (book .plan)) ++ drop (stopsOf book) (replicate planRoom 0))
-    (weighed : weights ≡ upTo (stopsOf book) (weight (book .weights)) ++ drop (stopsOf book) (replicate planRoom (pos 0)))
+    (followers : plan ≡ padded planRoom (stopsOf book) (follower (book .plan)) 0)
+    (weighed : weights ≡ padded planRoom (stopsOf book) (weight (book .weights)) (pos 0))
     (table : LegTable mostPlaces (entry (metresOf t)) (startsOf book) (requestsOf book) (standsOf book) costs) where
   few : stopsOf book ≤ mostStops
   few = let k = s .counts in omega arith
 
   same-follower : (p : ℕ) → p < stopsOf book → follower (book .plan) p ≡ follower plan p
-  same-follower p h = rw followers (sym (getD-front (stopsOf book) (follower (book .plan)) (drop (stopsOf book) (replicate planRoom 0)) 0 p h))
+  same-follower p h = rw followers (sym (getD-padded planRoom (stopsOf book) (follower (book .plan)) 0 0 p h))
 
   same-weight : (b : ℕ) → b < stopsOf book → weight (book .weights) b ≡ weight weights b
-  same-weight b h = rw weighed (sym (getD-front (stopsOf book) (weight (book .weights)) (drop (stopsOf book) (replicate planRoom (pos 0))) (pos 0) b h))
+  same-weight b h = rw weighed (sym (getD-padded planRoom (stopsOf book) (weight (book .weights)) (pos 0) (pos 0) b h))
 
   plan-room : length plan ≡ planRoom
-  plan-room = let most = few in rw followers (length-copied planRoom (stopsOf book) (follower (book .plan)) 0 (omega arith))
+  plan-room = let most = few in rw followers (length-padded planRoom (stopsOf book) (follower (book .plan)) 0 (omega arith))
 
   weights-room : length weights ≡ planRoom
-  weights-room = let most = few in rw weighed (length-copied planRoom (stopsOf book) (weight (book .weights)) (pos 0) (omega arith))
+  weights-room = let most = few in rw weighed (length-padded planRoom (stopsOf book) (weight (book .weights)) (pos 0) (omega arith))
 
   pub book-movable : Movable n (entry (metresOf t)) (startsOf book) (requestsOf book) (standsOf book) plan weights costs
   book-movable =

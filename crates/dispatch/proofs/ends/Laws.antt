@@ -12,8 +12,8 @@ use lib.Seq.{take-all}
 use native.Mathlib.Decide.{ℕ-discrete}
 use native.Mathlib.Nat.{add-zero, le-antisymm, le-refl, le-trans, le-of-eq}
 use native.Mathlib.Omega.{arith}
-use Rattle.base.specs.Lists.{upTo}
-use Rattle.base.proofs.Lists.{length-upTo, getD-front, take-upTo, Filled, fill-begun, fill-turned, fill-ended}
+use Rattle.base.specs.Lists.{upTo, padded}
+use Rattle.base.proofs.Lists.{length-upTo, length-padded, getD-front, getD-padded, take-upTo, Filled, fill-begun, fill-turned, fill-ended}
 use Rattle.base.proofs.Tests.{below-at, below-all}
 use Rattle.workfunction.specs.Choice.{moved}
 use Rattle.workfunction.specs.Movement.{Instance, work, floor}
@@ -42,19 +42,15 @@ pub record Own (k : ℕ) (plan : List ℕ) (weights : List ℤ) : Type 0 where
   pub planLong : planRoom ≤ length plan
   pub weightsLong : planRoom ≤ length weights
 
--- as they are filled in
-pub own-filled : (k : ℕ) → k ≤ planRoom → {plan : List ℕ} → plan ≡ upTo k (λ j. j) ++ drop k (replicate planRoom 0)
-    → Own k plan (replicate planRoom (pos 0))
-own-filled k few {plan} e =
-    let long : length (upTo k (λ j. j) ++ drop k (replicate {A = ℕ} planRoom 0)) ≡ planRoom =
-    simp (length-append, length-upTo, length-drop, length-replicate) (omega arith)
-    in
-    record {
-      follows = λ p h. rw e (getD-front k (λ j. j) (drop k (replicate planRoom 0)) 0 p h);
-      none = λ b h. getD-replicate planRoom b (pos 0) (pos 0) (omega arith);
-      planLong = rw e (le-of-eq (sym long));
-      weightsLong = le-of-eq (sym (length-replicate planRoom (pos 0)));
-    }
+-- as they are made
+pub own-made : (k : ℕ) → k ≤ planRoom → {plan : List ℕ} {weights : List ℤ} → plan ≡ padded planRoom k (λ j. j) 0 → weights ≡ replicate planRoom (pos 0)
+    → Own k plan weights
+own-made k few e z = record {
+  follows = λ p h. rw e (getD-padded planRoom k (λ j. j) 0 0 p h);
+  none = λ b h. rw z (getD-replicate planRoom b (pos 0) (pos 0) (omega arith));
+  planLong = rw e (le-of-eq (sym (length-padded planRoom k (λ j. j) 0 few)));
+  weightsLong = rw z (le-of-eq (sym (length-replicate planRoom (pos 0))));
+}
 
 module _ {n : ℕ} {d : ℕ → ℕ → ℕ} (self : (u : ℕ) → u < n → d u u ≡ 0) {starts plan : List ℕ} {weights : List ℤ} {costs : List ℕ}
     (asked : Asked n starts []) (table : LegTable n d starts [] starts costs) (own : Own (length starts) plan weights) where

@@ -29,13 +29,13 @@ fits s = sound-fits (arrays s) (sound s)
 
 -- the places of the code from which the others are looked back upon
 abbrev start : tie.After-copy → tie.Start
-start c = c .before .before .before .before .before .before .before .before .before .before
+start c = c .before .before .before .before .before .before .before .before
 
 abbrev weighed : tie.After-of-book → tie.After-copy2
 weighed c = c .before .before .before
 
 abbrev planned : tie.After-copy2 → tie.After-copy
-planned c = c .before .before .before .before
+planned c = c .before .before
 
 abbrev tabled : tie.After-cost → tie.After-of-book
 tabled c = c .before .before .before .before
@@ -46,39 +46,33 @@ at-floor c = start (planned (weighed (tabled c)))
 add-stops : tie.Need-add-stops
 add-stops c = let k = sound (c .before .before .before .before .before .before) .counts in omega arith
 
-zeros-requires : tie.Need-zeros-requires
-zeros-requires c κs = search needs
-
 slice-aggregate-copy : tie.Need-slice-aggregate-copy
 slice-aggregate-copy c = search needs
+
+copy-requires : tie.Need-copy-requires
+copy-requires c κs =
+    let s = c .before .before .before .before .before .before .before in
+    let k = sound s .counts in
+    (omega arith, omega (arith, plan-long s))
 
 slice-aggregate-copy-2 : tie.Need-slice-aggregate-copy-2
 slice-aggregate-copy-2 c = search needs
 
-copy-requires : tie.Need-copy-requires
-copy-requires c κs =
-    let s = c .before .before .before .before .before .before .before .before .before in
-    let k = sound s .counts in
-    (omega (arith, plan-long s), omega arith)
-
-slice-aggregate-copy-3 : tie.Need-slice-aggregate-copy-3
-slice-aggregate-copy-3 c = search needs
-
-slice-aggregate-copy-4 : tie.Need-slice-aggregate-copy-4
-slice-aggregate-copy-4 c = search needs
-
 copy-requires-2 : tie.Need-copy-requires-2
 copy-requires-2 c κs =
-    let s = start (c .before .before .before) in
+    let s = start (c .before) in
     let k = sound s .counts in
-    (omega (arith, weights-long s), omega arith)
+    (omega arith, omega (arith, weights-long s))
+
+zeros-requires : tie.Need-zeros-requires
+zeros-requires c κs = search needs
 
 slice-aggregate-of-book : tie.Need-slice-aggregate-of-book
 slice-aggregate-of-book c = search needs
 
 of-book-requires : tie.Need-of-book-requires
 of-book-requires c κs =
-    let z = c .before .before .before .before .before .before .before .before .before in
+    let z = c .before in
     let s = start (planned (c .before .before)) in
     sound-given (arrays s) (sound s) (z .zeros .ensures)
 
@@ -154,13 +148,11 @@ accepted-spec =
     tie.close
     (tie.spec
     add-stops
-    zeros-requires
     slice-aggregate-copy
-    slice-aggregate-copy-2
     copy-requires
-    slice-aggregate-copy-3
-    slice-aggregate-copy-4
+    slice-aggregate-copy-2
     copy-requires-2
+    zeros-requires
     slice-aggregate-of-book
     of-book-requires
     slice-aggregate-cost

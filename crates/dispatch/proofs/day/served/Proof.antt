@@ -14,7 +14,7 @@ use Rattle.dispatch.proofs.Carried.{sound-given}
 use Rattle.dispatch.proofs.DayServed.{FreshDay, day-sound, day-fits, calls-fit, calls-long, day-called, day-asked, day-kept}
 use Rattle.dispatch.proofs.DayServed.{last-long, last-within, last-lent, home-given, floor-given, day-figures}
 use Rattle.dispatch.proofs.Roads.{sound-roads}
-use Rattle.dispatch.proofs.ends.Laws.{own-filled}
+use Rattle.dispatch.proofs.ends.Laws.{own-made}
 use Rattle.dispatch.proofs.day.served.Statement.{statement}
 use Rattle.dispatch.proofs.day.served.Tie as tie
 
@@ -29,14 +29,14 @@ given s = record {
 }
 
 -- the places of the code from which the others are looked back upon
-abbrev start : tie.After-fill-own → tie.Start
-start c = c .before .before .before .before .before .before .before
+abbrev start : tie.After-own → tie.Start
+start c = c .before .before .before .before .before
 
-abbrev filled : tie.After-of-book → tie.After-fill-own
-filled c = c .before .before .before
+abbrev weighed : tie.After-of-book → tie.After-zeros
+weighed c = c .before .before .before
 
 abbrev at-calls : tie.After-costs2 → tie.Start
-at-calls c = start (filled (c .before))
+at-calls c = start (weighed (c .before) .before)
 
 abbrev asked : tie.After-serve-all → tie.After-costs2
 asked c = c .before .before .before .before .before .before .before .before .before .before
@@ -54,24 +54,21 @@ at-floor c = at-home (c .before .before .before)
 room : {day : Day} {t : Table} {book : Book} → FreshDay day t book → book .cranes ≤ planRoom
 room g = omega (arith, day-asked g .cranes, starts-long (day-fits g))
 
+own-requires : tie.Need-own-requires
+own-requires c κs = room (given (c .before .before .before .before))
+
 zeros-requires : tie.Need-zeros-requires
 zeros-requires c κs = search needs
 
-slice-aggregate-fill-own : tie.Need-slice-aggregate-fill-own
-slice-aggregate-fill-own c = search needs
-
-fill-own-requires : tie.Need-fill-own-requires
-fill-own-requires c κs =
-    let s = c .before .before .before .before .before .before in
-    let k = day-sound (given s) .counts in
-    (omega arith, omega arith)
+zeros-requires-2 : tie.Need-zeros-requires-2
+zeros-requires-2 c κs = search needs
 
 slice-aggregate-of-book : tie.Need-slice-aggregate-of-book
 slice-aggregate-of-book c = search needs
 
 of-book-requires : tie.Need-of-book-requires
 of-book-requires c κs =
-    let g = given (start (c .before .before)) in sound-given (g .arrays) (day-sound g) (c .before .before .before .before .zeros .ensures)
+    let g = given (start (c .before .before .before)) in sound-given (g .arrays) (day-sound g) (c .before .zeros2 .ensures)
 
 array-share-prefix-starts : tie.Need-array-share-prefix-starts
 array-share-prefix-starts c = day-fits (given (at-calls c)) .starts
@@ -112,14 +109,15 @@ slice-aggregate-serve-all-9 c = search needs
 serve-all-requires : tie.Need-serve-all-requires
 serve-all-requires c κs =
     let b = c .before .before .before .before .before .before .before .before .before .before in
-    let o = filled b in
+    let w = weighed b in
+    let o = w .before in
     let g = given (start o) in
     let few = day-asked g .few in
     record {
       places = _;
       between = _;
       roads = sound-roads (day-sound g);
-      kept = day-kept g (b .of-book .ensures) (own-filled _ (room g) (o .fill-own .ensures));
+      kept = day-kept g (b .of-book .ensures) (own-made _ (room g) (o .own .ensures) (w .zeros .ensures));
       called = day-called g;
       few = few;
       sent = few;
@@ -131,18 +129,20 @@ array-share-prefix-stands : tie.Need-array-share-prefix-stands
 array-share-prefix-stands c =
     let a = answered c in
     let b = asked a .before in
-    let o = filled b in
+    let w = weighed b in
+    let o = w .before in
     let g = given (start o) in
-    let kept = day-kept g (b .of-book .ensures) (own-filled _ (room g) (o .fill-own .ensures)) in
+    let kept = day-kept g (b .of-book .ensures) (own-made _ (room g) (o .own .ensures) (w .zeros .ensures)) in
     last-within g (a .serve-all .ensures _ _ (sound-roads (day-sound g)) kept (day-called g)) _
 
 slice-aggregate-home : tie.Need-slice-aggregate-home
 slice-aggregate-home c =
     let a = answered (c .before) in
     let b = asked a .before in
-    let o = filled b in
+    let w = weighed b in
+    let o = w .before in
     let g = given (start o) in
-    let kept = day-kept g (b .of-book .ensures) (own-filled _ (room g) (o .fill-own .ensures)) in
+    let kept = day-kept g (b .of-book .ensures) (own-made _ (room g) (o .own .ensures) (w .zeros .ensures)) in
     let done = a .serve-all .ensures _ _ (sound-roads (day-sound g)) kept (day-called g) in
     sym (ap length (last-lent g done _) ∙ last-long g done)
 
@@ -156,9 +156,10 @@ home-requires : tie.Need-home-requires
 home-requires c κs =
     let a = answered (c .before .before) in
     let b = asked a .before in
-    let o = filled b in
+    let w = weighed b in
+    let o = w .before in
     let g = given (start o) in
-    let kept = day-kept g (b .of-book .ensures) (own-filled _ (room g) (o .fill-own .ensures)) in
+    let kept = day-kept g (b .of-book .ensures) (own-made _ (room g) (o .own .ensures) (w .zeros .ensures)) in
     let done = a .serve-all .ensures _ _ (sound-roads (day-sound g)) kept (day-called g) in
     rw (last-lent g done _) (home-given g done)
 
@@ -187,9 +188,10 @@ floor-requires : tie.Need-floor-requires
 floor-requires c κs =
     let a = answered (c .before .before .before .before .before .before .before .before) in
     let b = asked a .before in
-    let o = filled b in
+    let w = weighed b in
+    let o = w .before in
     let g = given (start o) in
-    let own = own-filled _ (room g) (o .fill-own .ensures) in
+    let own = own-made _ (room g) (o .own .ensures) (w .zeros .ensures) in
     let done = a .serve-all .ensures _ _ (sound-roads (day-sound g)) (day-kept g (b .of-book .ensures) own) (day-called g) in
     floor-given g done (omega (arith, a .serve-all .kept, own .planLong)) (omega (arith, a .serve-all .kept, own .weightsLong))
 
@@ -199,9 +201,10 @@ returns c =
     let h = f .before .before .before .before .before .before in
     let a = answered (h .before .before .before) in
     let b = asked a .before in
-    let o = filled b in
+    let w = weighed b in
+    let o = w .before in
     let g = given (start o) in
-    let kept = day-kept g (b .of-book .ensures) (own-filled _ (room g) (o .fill-own .ensures)) in
+    let kept = day-kept g (b .of-book .ensures) (own-made _ (room g) (o .own .ensures) (w .zeros .ensures)) in
     let done = a .serve-all .ensures _ _ (sound-roads (day-sound g)) kept (day-called g) in
     day-figures g done _ (last-lent g done _) (h .home .ensures) (f .floor .ensures)
 
@@ -209,9 +212,9 @@ pub served-spec : {M : Type 1} → statement M
 served-spec =
     tie.close
     (tie.spec
+    own-requires
     zeros-requires
-    slice-aggregate-fill-own
-    fill-own-requires
+    zeros-requires-2
     slice-aggregate-of-book
     of-book-requires
     array-share-prefix-starts

@@ -9,22 +9,22 @@ use Rattle.road.specs.Table.{metresOf, entry}
 use Rattle.road.proofs.Table.{entry-in as read-in, metres-self}
 use Rattle.workfunction.proofs.Sums.{entry-in}
 use Rattle.dispatch.proofs.LegTable.{table-over}
-use Rattle.dispatch.proofs.ends.Laws.{own-filled, own-kept, kept-movable}
+use Rattle.dispatch.proofs.ends.Laws.{own-made, own-kept, kept-movable}
 use Rattle.dispatch.proofs.home.home.Statement.{statement}
 use Rattle.dispatch.proofs.home.home.Tie as tie
 
 -- the place of the code where it begins
 abbrev start : tie.After-costs → tie.Start
-start c = c .before .before .before .before .before .before .before .before .before
+start c = c .before .before .before .before .before .before .before .before
 
 zeros-requires : tie.Need-zeros-requires
 zeros-requires c κs = search needs
 
-slice-aggregate-fill-own : tie.Need-slice-aggregate-fill-own
-slice-aggregate-fill-own c = search needs
+own-requires : tie.Need-own-requires
+own-requires c κs = omega (arith, c .before .before .before .before .pre .asked .cranes)
 
-fill-own-requires : tie.Need-fill-own-requires
-fill-own-requires c κs = search needs
+zeros-requires-2 : tie.Need-zeros-requires-2
+zeros-requires-2 c κs = search needs
 
 slice-aggregate-fill : tie.Need-slice-aggregate-fill
 slice-aggregate-fill c = search needs
@@ -34,7 +34,7 @@ slice-aggregate-fill-2 c = search needs
 
 fill-requires : tie.Need-fill-requires
 fill-requires c κs =
-    let z = c .before .before .before .before .before in
+    let z = c .before .before .before .before in
     let p = start c .pre in
     record {
       aligned = refl;
@@ -59,10 +59,11 @@ slice-aggregate-least-4 c = search needs
 least-requires : tie.Need-least-requires
 least-requires c κs =
     let f = c .before .before .before .before .before in
-    let o = f .before .before .before .before in
-    let s = o .before .before .before .before .before .before in
+    let w = f .before .before .before in
+    let o = w .before in
+    let s = o .before .before .before .before .before in
     let p = s .pre in
-    let own = own-filled _ (omega (arith, p .asked .cranes)) (o .fill-own .ensures) in
+    let own = own-made _ (omega (arith, p .asked .cranes)) (o .own .ensures) (w .zeros2 .ensures) in
     let legs = table-over (f .fill .ensures) (p .legible .few) (λ q x h l. refl) in
     let t = s .args .table .now in
     let self : (u : ℕ) → u < p .places → entry (metresOf t) u u ≡ 0 =
@@ -83,8 +84,8 @@ home-spec =
     tie.close
     (tie.spec
     zeros-requires
-    slice-aggregate-fill-own
-    fill-own-requires
+    own-requires
+    zeros-requires-2
     slice-aggregate-fill
     slice-aggregate-fill-2
     fill-requires

@@ -2,13 +2,15 @@
 use Prim.Native.Nat.{_-_}
 use mathlib.Core.Path.{refl}
 use borrow.Author.Needs.{needs}
-use Rattle.base.proofs.Lists.{Filled, fill-begun, fill-turned, fill-ended}
+use lib.ListN.{replicate}
+use Rattle.base.proofs.Lists.{Filled, fill-begun, fill-turned, fill-padded}
 use Rattle.book.specs.Book.{follower}
+use Rattle.dispatch.specs.Legs.{planRoom}
 use Rattle.dispatch.proofs.plan.copy.Statement.{statement}
 use Rattle.dispatch.proofs.plan.copy.Tie as tie
 
 abbrev Inv-loop : tie.InvT-loop
-Inv-loop count from list₀ i₀ list i = Filled (follower from) list₀ count list i
+Inv-loop count from list₀ i₀ list i = Filled (follower from) (replicate planRoom 0) count list i
 
 abbrev μ-loop : tie.MeasureT-loop
 μ-loop count from list₀ i₀ list i = count - i
@@ -25,8 +27,8 @@ shared-slice-read-list c = search needs
 mul-list-2 : tie.Need-mul-list-2 Inv-loop μ-loop
 mul-list-2 c = search needs
 
-slice-write-list : tie.Need-slice-write-list Inv-loop μ-loop
-slice-write-list c = search needs
+array-write-list : tie.Need-array-write-list Inv-loop μ-loop
+array-write-list c = search needs
 
 add-i : tie.Need-add-i Inv-loop μ-loop
 add-i c = search needs
@@ -37,11 +39,8 @@ loop-less c = search needs
 loop-again : tie.Need-loop-again Inv-loop μ-loop
 loop-again c = fill-turned _ _ _ _ _ _ (search needs) (c .before .before .loop .inv) (c .before .loop-test .taken) refl
 
-same-length : tie.Need-same-length Inv-loop μ-loop
-same-length c = search needs
-
 returns : tie.Need-returns Inv-loop μ-loop
-returns c = fill-ended _ _ _ _ _ (c .before .loop .inv) (c .loop-test .left)
+returns c = fill-padded _ planRoom _ 0 _ _ (c .before .loop .inv) (c .loop-test .left)
 
 pub copy-spec : {M : Type 1} → statement M
 copy-spec =
@@ -53,9 +52,8 @@ copy-spec =
     mul-list
     shared-slice-read-list
     mul-list-2
-    slice-write-list
+    array-write-list
     add-i
     loop-less
     loop-again
-    same-length
     returns)

@@ -5,17 +5,15 @@ use mathlib.Core.List.{List}
 use mathlib.Core.Path.{_≡_, _∙_}
 use borrow.Author.Needs.{needs}
 use lib.IntN.{ℤ}
-use lib.ListN.{List·getD-append}
 use native.Mathlib.Nat.{le-of-lt}
 use native.Mathlib.Omega.{arith}
-use Rattle.base.specs.Lists.{upTo}
-use Rattle.base.proofs.Lists.{length-upTo, getD-upTo}
+use Rattle.base.proofs.Lists.{getD-padded}
 use Rattle.base.proofs.Tests.{below-at}
 use Rattle.road.specs.Table.{mostMetres}
 use Rattle.workfunction.proofs.Plan.{plan-facts}
 use Rattle.book.specs.Book.{follower, weight}
 use Rattle.book.specs.Weights.{Weighed}
-use Rattle.dispatch.specs.Legs.{legAt}
+use Rattle.dispatch.specs.Legs.{planRoom, legAt}
 use Rattle.dispatch.specs.Search.{at, headOf, Ready, Sized, Witnessed}
 use Rattle.dispatch.proofs.search.Heads.{head-high, heads-vouch}
 use Rattle.dispatch.proofs.search.search.Statement.{statement}
@@ -58,11 +56,8 @@ fill-heads-requires c κs =
     let w = p .witnessed in
     record { headed = le-of-lt (w .few); weighed = in-range w (p .sized); costed = p .sized .costed; short = leg w }
 
-slice-aggregate-fill-own : tie.Need-slice-aggregate-fill-own
-slice-aggregate-fill-own c = search needs
-
-fill-own-requires : tie.Need-fill-own-requires
-fill-own-requires c κs = search needs
+own-requires : tie.Need-own-requires
+own-requires c κs = search needs
 
 begin-requires : tie.Need-begin-requires
 begin-requires c κs = search needs
@@ -76,15 +71,15 @@ slice-aggregate-rounds-2 c = search needs
 rounds-requires : tie.Need-rounds-requires
 rounds-requires c κs =
     let b = c .before .before .before .before .before .before .before .before .before .before .before in
-    let o = b .before .before .before .before .before in
-    let f = o .before .before .before in
+    let o = b .before .before .before .before in
+    let f = o .before .before in
     let a = f .before .before .before .before .before .before .before in
     let s = a .pre .sized in
     let few = a .pre .witnessed .few in
     record {
       headed = search needs;
       listed = search needs;
-      opened = λ p lt. rw (o .fill-own .ensures) (List·getD-append (upTo (a .args .new) (λ i. i)) _ 0 p (rw length-upTo lt) ∙ getD-upTo _ _ p 0 lt);
+      opened = λ p lt. rw (o .own .ensures) (getD-padded planRoom (a .args .new) (λ i. i) 0 0 p lt);
       sized = record { planned = s .planned; costed = s .costed; totalled = search needs; parented = search needs; ranked = omega (arith, b .begin) };
       ready = heads-ready (a .pre .witnessed) (a .pre .self) (f .fill-heads .last .1 .1 .1 .1 .0) (f .fill-heads .ensures);
       begun = b .begin .ensures;
@@ -108,8 +103,7 @@ search-spec =
     (tie.spec
     slice-aggregate-fill-heads
     fill-heads-requires
-    slice-aggregate-fill-own
-    fill-own-requires
+    own-requires
     begin-requires
     slice-aggregate-rounds
     slice-aggregate-rounds-2
