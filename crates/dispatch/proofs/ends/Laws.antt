@@ -21,7 +21,7 @@ use Rattle.workfunction.specs.Plan.{planCost, stops, place, legCost, leastPlan}
 use Rattle.workfunction.specs.Position.{Position}
 use Rattle.workfunction.proofs.Least.{vouched-least, least-plan-more, plan-for, least-plan-work}
 use Rattle.workfunction.proofs.Plan.{plan-facts, plan-rule, vouch-facts}
-use Rattle.workfunction.proofs.Stops.{stop-placed, follower-placed, place-stand}
+use Rattle.workfunction.proofs.Stops.{stop-placed, follower-placed}
 use Rattle.workfunction.proofs.Sums.{entry-in}
 use Rattle.book.specs.Book.{mostStops, follower, weight}
 use Rattle.book.proofs.FreshBook.{own-plan, none-ranged, none-vouch}

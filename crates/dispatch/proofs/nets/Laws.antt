@@ -11,7 +11,7 @@ use Rattle.base.specs.Lists.{upTo}
 use Rattle.base.proofs.Lists.{drop-replicate, padded-same}
 use Rattle.base.proofs.Signed.{difference-same}
 use Rattle.road.specs.Table.{Table, metresOf, entry}
-use Rattle.dayfile.specs.Day.{mostCranes, mostCalls}
+use Rattle.dayfile.specs.Day.{mostCranes}
 use Rattle.workfunction.specs.Choice.{moved, netCost}
 use Rattle.workfunction.specs.Movement.{work}
 use Rattle.workfunction.specs.Plan.{stops}
