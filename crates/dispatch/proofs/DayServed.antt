@@ -28,7 +28,7 @@ use Rattle.book.specs.Book.{mostStops, startsOf, standsOf, requestsOf, BookArra
 use Rattle.dispatch.specs.declared.insert.Pick.{Pick}
 use Rattle.dispatch.specs.declared.insert.Pick.the-variants.{Least}
 use Rattle.dispatch.specs.Insertion.{Asked, Kept, Answered, EndsGiven, HomeGiven, DayDone}
-use Rattle.dispatch.specs.Legs.{planRoom, LegTable}
+use Rattle.dispatch.specs.Legs.{planRoom, Costed, LegTable}
 use Rattle.dispatch.specs.Quote.{unserved}
 use Rattle.dispatch.specs.ServedDay.{nth, DayFigures, homeOf, servedDay}
 use Rattle.dispatch.proofs.Carried.{sound-table}
@@ -219,8 +219,8 @@ module _ {day : Day} {t : Table} {book : Book} (given : FreshDay day t book) whe
     last-lent rest = take-at stands rest (book .cranes) last-long
 
     -- the way home may be asked for, and the ends of the plan may be moved to the starts
-    pub home-given : HomeGiven (entry (metresOf t)) stands (startsOf book)
-    home-given = record {
+    pub home-given : {table : List ℕ} → Costed table → HomeGiven (entry (metresOf t)) stands (startsOf book) table
+    home-given costed = record {
       places = day .places;
       legible = read-legible (sound-roads day-sound .legible);
       asked = record {
@@ -229,6 +229,7 @@ module _ {day : Day} {t : Table} {book : Book} (given : FreshDay day t book) whe
         few = zero-le;
       };
       ending = rw (done .kept .standing .cranes) (day-asked .day .started);
+      costed = costed;
     }
 
     pub floor-given : planRoom ≤ length plan → planRoom ≤ length weights

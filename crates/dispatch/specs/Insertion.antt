@@ -176,11 +176,12 @@ pub record EndsMoved (read : ℕ → ℕ → ℕ) (starts calls to plan : List �
   pub there : Movable places read starts calls to plan weights costs
 
 -- what the way home from the stands to the starts is given
-pub record HomeGiven (read : ℕ → ℕ → ℕ) (stands starts : List ℕ) : Type 0 where
+pub record HomeGiven (read : ℕ → ℕ → ℕ) (stands starts costs : List ℕ) : Type 0 where
   pub places : ℕ
   pub legible : Legible places read read
   pub asked : Asked places stands []
   pub ending : Position places (length stands) starts
+  pub costed : Costed costs
 
 -- a call at r served by a crane of the stands: the figures, and the day that is under way after it
 pub record Answered (n : ℕ) (d : ℕ → ℕ → ℕ) (starts calls stands : List ℕ) (r : ℕ) (pick : Pick) (told : Served) (stands' plan' : List ℕ)

@@ -59,7 +59,6 @@ pub(crate) fn served(day: Day, fresh: Book, table: &[u32]) -> ServedDay
         &mut metres[..],
         &mut leasts[..],
     );
-    let home = home::home(table, &stands[..cranes], &starts[..cranes]);
     let floor = floor::floor(
         table,
         &starts[..cranes],
@@ -68,6 +67,7 @@ pub(crate) fn served(day: Day, fresh: Book, table: &[u32]) -> ServedDay
         &mut weights[..],
         &mut costs[..],
     );
+    let home = home::home(table, &stands[..cranes], &starts[..cranes], &mut costs[..]);
     ServedDay {
         verdict: Verdict::Accepted,
         calls: day.calls,

@@ -7,6 +7,7 @@ ghost use mathlib.Core.Path.{_≡_};
 ghost use lib.ListN.{length};
 ghost use Rattle.road.specs.Table.{metresOf, entry};
 ghost use Rattle.workfunction.specs.Plan.{stops, legCost, leastPlan};
+ghost use Rattle.dispatch.specs.Legs.{Costed};
 ghost use Rattle.dispatch.specs.Insertion.{EndGiven, EndMoved, EndsGiven, EndsMoved};
 
 // Moves an end to `place`: a call there is taken in for it, and the stop that the call then follows takes the end in its stead.
@@ -52,7 +53,7 @@ fn move_all(
     }
 }
 
-// The least cost of all plans from the starts over the calls to the ends `to`.
+// The least cost of all plans from the starts over the calls to the ends `to`; the table of leg costs can be filled anew.
 pub(crate) fn least(
     table: &[u32],
     starts: &[u16],
@@ -63,7 +64,7 @@ pub(crate) fn least(
     costs: &mut [u32],
 ) -> u64
     requires { ⌜ EndsGiven (entry (metresOf (now table))) (now starts) (now calls) (now to) (now plan) (now weights) (now costs) ⌝ }
-    ensures { λ r. ⌜ r ≡ leastPlan (length (now (starts .entry))) (stops (now (starts .entry)) (now (calls .entry))) (legCost (entry (metresOf (now (table .entry)))) (now (starts .entry)) (now (calls .entry)) (now (to .entry))) ⌝ }
+    ensures { λ r. ⌜ (r ≡ leastPlan (length (now (starts .entry))) (stops (now (starts .entry)) (now (calls .entry))) (legCost (entry (metresOf (now (table .entry)))) (now (starts .entry)) (now (calls .entry)) (now (to .entry)))) × Costed (now (costs .exit)) ⌝ }
 {
     move_all(table, starts, calls, to, plan, weights, costs);
     plan::cost(starts.len() + calls.len(), plan, costs)

@@ -141,7 +141,7 @@ returns c = λ n h.
     let p = planned w in
     let s = start p in
     book-costs (arrays s) (book-sound h) (omega (arith, plan-long s)) (omega (arith, weights-long s)) (p .copy .ensures) (w .copy2 .ensures)
-    (b .of-book .ensures) (l .cost .ensures) (f .floor .ensures)
+    (b .of-book .ensures) (l .cost .ensures) (f .floor .ensures .0)
 
 pub accepted-spec : {M : Type 1} → statement M
 accepted-spec =

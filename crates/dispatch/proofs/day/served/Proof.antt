@@ -1,5 +1,5 @@
--- `dispatch::day::served` meets its contract: the calls are served from the fresh book, the way home is that of the last stands, and the
--- floor is found from the plan to them. Assumes nothing.
+-- `dispatch::day::served` meets its contract: the calls are served from the fresh book, the floor is found from the plan to the last stands, and
+-- the way home is theirs. Assumes nothing.
 use Prim.Native.Nat.{_≤_}
 use mathlib.Core.Path.{sym, ap, _∙_}
 use borrow.Author.Needs.{needs}
@@ -44,11 +44,17 @@ asked c = c .before .before .before .before .before .before .before .before .bef
 abbrev answered : tie.After-leasts2 → tie.After-serve-all
 answered c = c .before .before .before .before .before .before .before
 
-abbrev at-home : tie.After-leasts2 → tie.Start
-at-home c = at-calls (asked (answered c))
+abbrev at-floor : tie.After-leasts2 → tie.Start
+at-floor c = at-calls (asked (answered c))
 
-abbrev at-floor : tie.After-home → tie.Start
-at-floor c = at-home (c .before .before .before)
+abbrev floored : tie.After-costs6 → tie.After-floor
+floored c = c .before .before .before
+
+abbrev ended : tie.After-floor → tie.After-leasts2
+ended c = c .before .before .before .before .before .before
+
+abbrev at-home : tie.After-costs6 → tie.Start
+at-home c = at-floor (ended (floored c))
 
 -- there is room for the cranes
 room : {day : Day} {t : Table} {book : Book} → FreshDay day t book → book .cranes ≤ planRoom
@@ -125,46 +131,8 @@ serve-all-requires c κs =
       costed = few;
     }
 
-array-share-prefix-stands : tie.Need-array-share-prefix-stands
-array-share-prefix-stands c =
-    let a = answered c in
-    let b = asked a .before in
-    let w = weighed b in
-    let o = w .before in
-    let g = given (start o) in
-    let kept = day-kept g (b .of-book .ensures) (own-made _ (room g) (o .own .ensures) (w .zeros .ensures)) in
-    last-within g (a .serve-all .ensures _ _ (sound-roads (day-sound g)) kept (day-called g)) _
-
-slice-aggregate-home : tie.Need-slice-aggregate-home
-slice-aggregate-home c =
-    let a = answered (c .before) in
-    let b = asked a .before in
-    let w = weighed b in
-    let o = w .before in
-    let g = given (start o) in
-    let kept = day-kept g (b .of-book .ensures) (own-made _ (room g) (o .own .ensures) (w .zeros .ensures)) in
-    let done = a .serve-all .ensures _ _ (sound-roads (day-sound g)) kept (day-called g) in
-    sym (ap length (last-lent g done _) ∙ last-long g done)
-
 array-share-prefix-starts-2 : tie.Need-array-share-prefix-starts-2
-array-share-prefix-starts-2 c = day-fits (given (at-home (c .before))) .starts
-
-slice-aggregate-home-2 : tie.Need-slice-aggregate-home-2
-slice-aggregate-home-2 c = sym (starts-long (day-fits (given (at-home (c .before .before)))))
-
-home-requires : tie.Need-home-requires
-home-requires c κs =
-    let a = answered (c .before .before) in
-    let b = asked a .before in
-    let w = weighed b in
-    let o = w .before in
-    let g = given (start o) in
-    let kept = day-kept g (b .of-book .ensures) (own-made _ (room g) (o .own .ensures) (w .zeros .ensures)) in
-    let done = a .serve-all .ensures _ _ (sound-roads (day-sound g)) kept (day-called g) in
-    rw (last-lent g done _) (home-given g done)
-
-array-share-prefix-starts-3 : tie.Need-array-share-prefix-starts-3
-array-share-prefix-starts-3 c = day-fits (given (at-floor c)) .starts
+array-share-prefix-starts-2 c = day-fits (given (at-floor c)) .starts
 
 slice-aggregate-floor : tie.Need-slice-aggregate-floor
 slice-aggregate-floor c = sym (starts-long (day-fits (given (at-floor (c .before)))))
@@ -186,7 +154,7 @@ slice-aggregate-floor-5 c = search needs
 
 floor-requires : tie.Need-floor-requires
 floor-requires c κs =
-    let a = answered (c .before .before .before .before .before .before .before .before) in
+    let a = answered (c .before .before .before .before .before) in
     let b = asked a .before in
     let w = weighed b in
     let o = w .before in
@@ -195,18 +163,61 @@ floor-requires c κs =
     let done = a .serve-all .ensures _ _ (sound-roads (day-sound g)) (day-kept g (b .of-book .ensures) own) (day-called g) in
     floor-given g done (omega (arith, a .serve-all .kept, own .planLong)) (omega (arith, a .serve-all .kept, own .weightsLong))
 
-returns : tie.Need-returns
-returns c =
-    let f = c .before .before .before in
-    let h = f .before .before .before .before .before .before in
-    let a = answered (h .before .before .before) in
+array-share-prefix-stands : tie.Need-array-share-prefix-stands
+array-share-prefix-stands c =
+    let a = answered (ended (floored c)) in
     let b = asked a .before in
     let w = weighed b in
     let o = w .before in
     let g = given (start o) in
-    let kept = day-kept g (b .of-book .ensures) (own-made _ (room g) (o .own .ensures) (w .zeros .ensures)) in
-    let done = a .serve-all .ensures _ _ (sound-roads (day-sound g)) kept (day-called g) in
-    day-figures g done _ (last-lent g done _) (h .home .ensures) (f .floor .ensures)
+    let own = own-made _ (room g) (o .own .ensures) (w .zeros .ensures) in
+    let done = a .serve-all .ensures _ _ (sound-roads (day-sound g)) (day-kept g (b .of-book .ensures) own) (day-called g) in
+    last-within g done _
+
+slice-aggregate-home : tie.Need-slice-aggregate-home
+slice-aggregate-home c =
+    let a = answered (ended (floored (c .before))) in
+    let b = asked a .before in
+    let w = weighed b in
+    let o = w .before in
+    let g = given (start o) in
+    let own = own-made _ (room g) (o .own .ensures) (w .zeros .ensures) in
+    let done = a .serve-all .ensures _ _ (sound-roads (day-sound g)) (day-kept g (b .of-book .ensures) own) (day-called g) in
+    sym (ap length (last-lent g done _) ∙ last-long g done)
+
+array-share-prefix-starts-3 : tie.Need-array-share-prefix-starts-3
+array-share-prefix-starts-3 c = day-fits (given (at-home (c .before))) .starts
+
+slice-aggregate-home-2 : tie.Need-slice-aggregate-home-2
+slice-aggregate-home-2 c = sym (starts-long (day-fits (given (at-home (c .before .before)))))
+
+slice-aggregate-home-3 : tie.Need-slice-aggregate-home-3
+slice-aggregate-home-3 c = search needs
+
+home-requires : tie.Need-home-requires
+home-requires c κs =
+    let f = floored (c .before .before .before) in
+    let a = answered (ended f) in
+    let b = asked a .before in
+    let w = weighed b in
+    let o = w .before in
+    let g = given (start o) in
+    let own = own-made _ (room g) (o .own .ensures) (w .zeros .ensures) in
+    let done = a .serve-all .ensures _ _ (sound-roads (day-sound g)) (day-kept g (b .of-book .ensures) own) (day-called g) in
+    rw (last-lent g done _) (home-given g done (f .floor .ensures .1))
+
+returns : tie.Need-returns
+returns c =
+    let h = c .before in
+    let f = floored (h .before .before .before .before) in
+    let a = answered (ended f) in
+    let b = asked a .before in
+    let w = weighed b in
+    let o = w .before in
+    let g = given (start o) in
+    let own = own-made _ (room g) (o .own .ensures) (w .zeros .ensures) in
+    let done = a .serve-all .ensures _ _ (sound-roads (day-sound g)) (day-kept g (b .of-book .ensures) own) (day-called g) in
+    day-figures g done _ (last-lent g done _) (h .home .ensures) (f .floor .ensures .0)
 
 pub served-spec : {M : Type 1} → statement M
 served-spec =
@@ -230,12 +241,7 @@ served-spec =
     slice-aggregate-serve-all-8
     slice-aggregate-serve-all-9
     serve-all-requires
-    array-share-prefix-stands
-    slice-aggregate-home
     array-share-prefix-starts-2
-    slice-aggregate-home-2
-    home-requires
-    array-share-prefix-starts-3
     slice-aggregate-floor
     array-share-prefix-requests-2
     slice-aggregate-floor-2
@@ -243,4 +249,10 @@ served-spec =
     slice-aggregate-floor-4
     slice-aggregate-floor-5
     floor-requires
+    array-share-prefix-stands
+    slice-aggregate-home
+    array-share-prefix-starts-3
+    slice-aggregate-home-2
+    slice-aggregate-home-3
+    home-requires
     returns)

@@ -37,7 +37,8 @@ same-length-3 c = search needs
 returns : tie.Need-returns
 returns c =
     let m = c .before .before .before .before .before .before .before .before in
-    c .cost .ensures ∙ movable-least (m .move-all .ensures .there)
+    let there = m .move-all .ensures .there in
+    (c .cost .ensures ∙ movable-least there, there .kept .table .costed)
 
 pub least-spec : {M : Type 1} → statement M
 least-spec =

@@ -13,35 +13,24 @@ use Rattle.dispatch.proofs.ends.Laws.{own-made, own-kept, kept-movable}
 use Rattle.dispatch.proofs.home.home.Statement.{statement}
 use Rattle.dispatch.proofs.home.home.Tie as tie
 
--- the place of the code where it begins
-abbrev start : tie.After-costs → tie.Start
-start c = c .before .before .before .before .before .before .before .before
+own-requires : tie.Need-own-requires
+own-requires c κs = omega (arith, c .before .before .before .before .pre .asked .cranes)
 
 zeros-requires : tie.Need-zeros-requires
 zeros-requires c κs = search needs
 
-own-requires : tie.Need-own-requires
-own-requires c κs = omega (arith, c .before .before .before .before .pre .asked .cranes)
-
-zeros-requires-2 : tie.Need-zeros-requires-2
-zeros-requires-2 c κs = search needs
-
 slice-aggregate-fill : tie.Need-slice-aggregate-fill
 slice-aggregate-fill c = search needs
 
-slice-aggregate-fill-2 : tie.Need-slice-aggregate-fill-2
-slice-aggregate-fill-2 c = search needs
-
 fill-requires : tie.Need-fill-requires
 fill-requires c κs =
-    let z = c .before .before .before .before in
-    let p = start c .pre in
+    let p = c .before .before .before .before .before .before .before .before .pre in
     record {
       aligned = refl;
       few = omega (arith, p .asked .cranes);
       stood = λ i h. le-trans (p .asked .day .started .placed (entry-in _ i h)) (p .legible .few);
       called = λ i h. absurd (not-suc-le-zero h);
-      costed = z .zeros .ensures;
+      costed = p .costed;
     }
 
 slice-aggregate-least : tie.Need-slice-aggregate-least
@@ -53,17 +42,14 @@ slice-aggregate-least-2 c = search needs
 slice-aggregate-least-3 : tie.Need-slice-aggregate-least-3
 slice-aggregate-least-3 c = search needs
 
-slice-aggregate-least-4 : tie.Need-slice-aggregate-least-4
-slice-aggregate-least-4 c = search needs
-
 least-requires : tie.Need-least-requires
 least-requires c κs =
-    let f = c .before .before .before .before .before in
+    let f = c .before .before .before .before .before .before in
     let w = f .before .before .before in
     let o = w .before in
     let s = o .before .before .before .before .before in
     let p = s .pre in
-    let own = own-made _ (omega (arith, p .asked .cranes)) (o .own .ensures) (w .zeros2 .ensures) in
+    let own = own-made _ (omega (arith, p .asked .cranes)) (o .own .ensures) (w .zeros .ensures) in
     let legs = table-over (f .fill .ensures) (p .legible .few) (λ q x h l. refl) in
     let t = s .args .table .now in
     let self : (u : ℕ) → u < p .places → entry (metresOf t) u u ≡ 0 =
@@ -76,22 +62,23 @@ least-requires c κs =
       ending = p .ending;
     }
 
+same-length : tie.Need-same-length
+same-length c = search needs
+
 returns : tie.Need-returns
-returns c = search needs
+returns c = c .before .before .before .before .least .ensures .0
 
 pub home-spec : {M : Type 1} → statement M
 home-spec =
     tie.close
     (tie.spec
-    zeros-requires
     own-requires
-    zeros-requires-2
+    zeros-requires
     slice-aggregate-fill
-    slice-aggregate-fill-2
     fill-requires
     slice-aggregate-least
     slice-aggregate-least-2
     slice-aggregate-least-3
-    slice-aggregate-least-4
     least-requires
+    same-length
     returns)
