@@ -64,7 +64,7 @@ pub(crate) fn all() -> Group {
     // Two gates 0 metres apart: equal sums and equal drives of 0; then a crane at the other gate, and one elsewhere.
     let gates = edge(two, small::three(0, 5, 5), 3, 2, 1, 1, 0);
     let other = edge(gates, small::three(0, 5, 5), 3, 2, 12, 1, 0);
-    // At the last call equal sums, and the second crane drives less. The ends count: the least cost is above the floor.
+    // At the last call equal sums, and the second crane drives less. The ways home count: the floor is above the least cost.
     let ends = edge(other, small::three(1, 2, 2), 3, 2, 2, 3, 101);
     // Steps out of stands count: without them the net costs of the last call are wrong.
     edge(ends, small::three(3, 1, 3), 3, 3, 2, 3, 201)
