@@ -19,12 +19,12 @@ use Rattle.workfunction.specs.Movement.{Instance, Serves, Movement, cont
 use Rattle.workfunction.proofs.Lists.{minimum-least, filter-in, in-filter, sections-in, in-sections}
 use Rattle.workfunction.proofs.Position.{distance-right, distance-self, distance-triangle, positions-in, in-positions}
 
-contains-yes : {r : ℕ} {C : List ℕ} → List·Memᴰ r C → contains r C ≡ true
+pub contains-yes : {r : ℕ} {C : List ℕ} → List·Memᴰ r C → contains r C ≡ true
 unfolding contains
 contains-yes {r} (List·Memᴰ·head {x} e) = rw (eq-eqb r x e)
 contains-yes {r} (List·Memᴰ·tail {x} m) = rw (contains-yes m) (or-true (eqb r x))
 
-contains-in : (r : ℕ) (C : List ℕ) → contains r C ≡ true → List·Memᴰ r C
+pub contains-in : (r : ℕ) (C : List ℕ) → contains r C ≡ true → List·Memᴰ r C
 unfolding contains
 contains-in r [] h = absurd (false≢true h)
 contains-in r (p ∷ C) h = go (eqb r p) refl h (contains-in r C)

@@ -1,0 +1,4 @@
+pub mod Count
+pub mod Standing
+pub mod HeldPlaces
+pub mod NearCranes

@@ -1,0 +1,4 @@
+pub mod Count
+pub mod Near
+pub mod Occupancy
+pub mod Mask
