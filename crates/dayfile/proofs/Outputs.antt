@@ -5,8 +5,9 @@ use mathlib.Core.Bool.{Bool, true}
 use mathlib.Core.List.{List, _++_, map, append-assoc}
 use mathlib.Core.Path.{_≡_, refl, ap, _∙_}
 use lib.Dec.{leb}
-use lib.ListN.{length, length-append, length-map}
-use lib.Seq.{take-at}
+use lib.ListN.{length, drop, length-append, length-map}
+use lib.Seq.{take-at, drop-at}
+use native.Mathlib.Nat.{zero-add}
 use native.Mathlib.Omega.{arith}
 use Rattle.base.specs.Lists.{splice}
 use Rattle.base.specs.Numbers.{unless, _then_, unlessRefused}
@@ -29,7 +30,26 @@ first-decides : {A : Type 0} (n : ℕ) (b : Bool) (k : ℕ) (values : A) (zeros 
 first-decides zero b k values zeros h = rw (h refl)
 first-decides (suc n) b k values zeros h = refl
 
+numbered : (n : ℕ) (bytes out : List ℕ) → outputBy n bytes out .number ≡ n
+numbered zero bytes out = refl
+numbered (suc n) bytes out = refl
+
+kept : (n : ℕ) (bytes out : List ℕ) → (outputBy n bytes out .number ≡ 0 → ⊥) → outputBy n bytes out ≡ record { number = n; length = 0; buffer = out }
+kept zero bytes out h = absurd (h refl)
+kept (suc n) bytes out h = refl
+
 module _ (tests : ℕ) (bytes out : List ℕ) where
+  -- the number of the first that refuses: the tests, then that of the buffer
+  pub output-number : outputOf tests bytes out .number ≡ (tests then unless (leb (length bytes) (length out)) 11)
+  unfolding outputOf
+  output-number = numbered _ bytes out
+
+  -- refused, nothing is written
+  pub output-kept : (outputOf tests bytes out .number ≡ 0 → ⊥)
+      → outputOf tests bytes out ≡ record { number = tests then unless (leb (length bytes) (length out)) 11; length = 0; buffer = out }
+  unfolding outputOf
+  output-kept h = kept _ bytes out h
+
   -- the tests refuse
   pub output-refused : (n : ℕ) → n ≡ tests → (n ≡ 0 → ⊥) → record { number = n; length = 0; buffer = out } ≡ outputOf tests bytes out
   unfolding outputOf
@@ -65,6 +85,11 @@ module _ (tests : ℕ) (bytes out : List ℕ) where
   pub output-bytes : outputOf tests bytes out .number ≡ 0 → bytesWritten (outputOf tests bytes out) ≡ bytes
   unfolding splice
   output-bytes h = rw (output-accepted h .1) (take-at bytes _ _ refl)
+
+  -- "written output past the result's length is unchanged"
+  pub output-past : outputOf tests bytes out .number ≡ 0 → drop (outputOf tests bytes out .length) (outputOf tests bytes out .buffer) ≡ drop (outputOf tests bytes out .length) out
+  unfolding splice
+  output-past h = rw (output-accepted h .1) (drop-at bytes _ (length bytes) refl ∙ ap (λ (n : ℕ). drop n out) (zero-add (length bytes)))
 
 -- ---- a day's file
 

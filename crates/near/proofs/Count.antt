@@ -3,7 +3,7 @@
 use Prim.Native.Nat.{ℕ, zero, suc, _+_, _<_, _≤_, zero-le, suc-le-suc}
 use mathlib.Core.Bool.{Bool, true, false, cond}
 use mathlib.Core.Logic.{⊎-elim}
-use mathlib.Core.Path.{_≡_, refl, sym, ap, subst, _∙_}
+use mathlib.Core.Path.{_≡_, refl, sym, ap, _∙_}
 use native.Mathlib.Nat.{mul-one, not-suc-le-zero, le-of-suc-le-suc, le-antisymm, eq-or-lt-of-le, le-refl}
 use native.Mathlib.Omega.{arith}
 use Rattle.base.proofs.Tests.{one-more}

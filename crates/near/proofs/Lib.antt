@@ -2,3 +2,4 @@ pub mod Count
 pub mod Standing
 pub mod HeldPlaces
 pub mod NearCranes
+pub mod Promise

@@ -12,7 +12,7 @@ use Rattle.base.proofs.Lists.{length-upTo, take-padded}
 use Rattle.base.proofs.Numbers.{unless-zero, then-zero, zeros-told}
 use Rattle.road.specs.Table.{Table, mostPlaces, metresOf}
 use Rattle.dayfile.specs.Day.{mostCranes}
-use Rattle.dayfile.specs.File.{Output, outputOf}
+use Rattle.dayfile.specs.File.{Output}
 use Rattle.dayfile.proofs.Limits.{stop-below}
 use Rattle.dayfile.proofs.Outputs.{output-refused, output-short, output-written}
 use Rattle.workfunction.specs.Choice.{drive}

@@ -42,7 +42,14 @@ fn test(book: Book, places: usize, table: &[u32], place: u16) -> Verdict
 
 // The cranes whose stands are at most so many metres from a place, by metres and then by number, into the front of a lent buffer, and
 // the first in that order of all cranes; the test of the book, then 5 for the place, then 11 where the buffer is shorter than the list.
-pub fn near(book: Book, places: usize, table: &[u32], place: u16, distance: u32, out: &mut [u16]) -> Nearby
+pub fn near(
+    book: Book,
+    places: usize,
+    table: &[u32],
+    place: u16,
+    distance: u32,
+    out: &mut [u16],
+) -> Nearby
     ensures { λ r. ⌜ nearby r (now (out .exit)) ≡ nearOf book places (now (table .entry)) place distance (now (out .entry)) ⌝ }
 {
     let verdict = test(book, places, table, place);

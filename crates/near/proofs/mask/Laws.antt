@@ -1,12 +1,12 @@
 -- A set of numbers below k as a word: one more number set, how many are set, and the lowest that is not.
 -- Assumes nothing.
-use Prim.Native.Nat.{ℕ, zero, suc, _+_, _-_, _*_, _/_, _%_, _^_, _<_, _≤_, max, zero-le}
+use Prim.Native.Nat.{ℕ, zero, suc, _+_, _-_, _*_, _/_, _%_, _^_, _<_, _≤_, max, zero-le, suc-le-suc}
 use mathlib.Core.Bool.{Bool, true, false, cond, _||_, not, or-false, or-assoc}
 use mathlib.Core.List.{List, [], _∷_, _++_}
 use mathlib.Core.Path.{_≡_, refl, sym, ap, ap₂, _∙_}
 use borrow.Author.Tests.{eq-eqb, ne-eqb}
 use lib.Bits.{bitOr, or-step, or-zero-r}
-use lib.Count.{ones, ones-step, trailingZeros, under}
+use lib.Count.{ones, ones-step, ones-ones, trailingZeros, under, trailing-of-zero}
 use lib.Dec.{eqb}
 use lib.ListN.{length, getD, take}
 use lib.Pow.{pow-lt}
@@ -30,15 +30,16 @@ odd : (r : ℕ) (b : Bool) → (r * 2 + cond b 1 0) % 2 ≡ cond b 1 0
 odd r true = omega arith
 odd r false = omega arith
 
-pub mask-none : (k : ℕ) → maskOf k (λ i. false) ≡ 0
+mask-none : (k : ℕ) → maskOf k (λ i. false) ≡ 0
 unfolding maskOf
 mask-none zero = refl
 mask-none (suc k) = rw (mask-none k)
 
-pub mask-same : (k : ℕ) (P Q : ℕ → Bool) → ((i : ℕ) → P i ≡ Q i) → maskOf k P ≡ maskOf k Q
+-- sets that agree below k
+mask-same : (k : ℕ) (P Q : ℕ → Bool) → ((i : ℕ) → i < k → P i ≡ Q i) → maskOf k P ≡ maskOf k Q
 unfolding maskOf
 mask-same zero P Q e = refl
-mask-same (suc k) P Q e = rw (mask-same k (λ i. P (suc i)) (λ i. Q (suc i)) (λ i. e (suc i)), e 0)
+mask-same (suc k) P Q e = rw (mask-same k (λ i. P (suc i)) (λ i. Q (suc i)) (λ i h. e (suc i) (suc-le-suc h)), e 0 (zero-lt-suc k))
 
 pub mask-below : (k : ℕ) (P : ℕ → Bool) → maskOf k P < 2 ^ k
 unfolding maskOf
@@ -88,6 +89,15 @@ mask-first (suc k) P =
 pub mask-free : (k : ℕ) (P : ℕ → Bool) → trailingZeros k ((2 ^ k - 1) - maskOf k P) ≡ first k (λ i. not (P i))
 mask-free k P = ap (trailingZeros k) (mask-not k P) ∙ mask-first k (λ i. not (P i))
 
+-- of all numbers below k: k digits set, and no zero among them, k being the width of a word too
+pub mask-full : (k : ℕ) (P : ℕ → Bool) → ((i : ℕ) → i < k → P i ≡ true)
+    → (maskOf k P ≡ 2 ^ k - 1) × (ones (maskOf k P) ≡ k) × (trailingZeros k ((2 ^ k - 1) - maskOf k P) ≡ k)
+mask-full k P all =
+    let none = mask-not k P ∙ mask-same k _ (λ i. false) (λ i h. rw (all i h)) ∙ mask-none k in
+    let below = mask-below k P in
+    let full : maskOf k P ≡ 2 ^ k - 1 = omega arith in
+    (full, ap ones full ∙ ones-ones k, ap (trailingZeros k) none ∙ trailing-of-zero k)
+
 -- ---- one more number
 
 eqb-suc : (i p : ℕ) → eqb i p ≡ eqb (suc i) (suc p)
@@ -104,7 +114,7 @@ mask-or (suc k) P zero h =
     let rest = maskOf k (λ i. P (suc i)) in
     or-step (rest * 2 + cond (P 0) 1 0) 1
     ∙ ap₂ (λ (x y : ℕ). bitOr x 0 * 2 + max y 1) (half rest (P 0)) (odd rest (P 0))
-    ∙ ap₂ (λ (x y : ℕ). x * 2 + y) (or-zero-r rest ∙ mask-same k _ _ (λ i. sym (or-false (P (suc i))) ∙ ap (λ (b : Bool). P (suc i) || b) (sym (ne-eqb (suc i) 0 (λ e. omega arith))))) (high (P 0))
+    ∙ ap₂ (λ (x y : ℕ). x * 2 + y) (or-zero-r rest ∙ mask-same k _ _ (λ i h. sym (or-false (P (suc i))) ∙ ap (λ (b : Bool). P (suc i) || b) (sym (ne-eqb (suc i) 0 (λ e. omega arith))))) (high (P 0))
   where
     high : (b : Bool) → max (cond b 1 0) 1 ≡ cond (b || true) 1 0
     high true = refl
@@ -114,7 +124,7 @@ mask-or (suc k) P (suc p) h =
     or-step (rest * 2 + cond (P 0) 1 0) (2 ^ suc p)
     ∙ ap₂ (λ (x y : ℕ). bitOr x (2 ^ suc p / 2) * 2 + max y (2 ^ suc p % 2)) (half rest (P 0)) (odd rest (P 0))
     ∙ ap₂ (λ (x y : ℕ). bitOr rest x * 2 + max (cond (P 0) 1 0) y) (ap (λ (x : ℕ). x / 2) (pow-suc 2 p) ∙ halved) (ap (λ (x : ℕ). x % 2) (pow-suc 2 p) ∙ even)
-    ∙ ap₂ (λ (x y : ℕ). x * 2 + y) (mask-or k (λ i. P (suc i)) p (le-of-suc-le-suc h) ∙ mask-same k _ _ (λ i. ap (λ (b : Bool). P (suc i) || b) (eqb-suc i p))) (low (P 0) ∙ ap (λ (b : Bool). cond (P 0 || b) 1 0) (sym (ne-eqb 0 (suc p) (λ e. omega arith))))
+    ∙ ap₂ (λ (x y : ℕ). x * 2 + y) (mask-or k (λ i. P (suc i)) p (le-of-suc-le-suc h) ∙ mask-same k _ _ (λ i h. ap (λ (b : Bool). P (suc i) || b) (eqb-suc i p))) (low (P 0) ∙ ap (λ (b : Bool). cond (P 0 || b) 1 0) (sym (ne-eqb 0 (suc p) (λ e. omega arith))))
   where
     halved : 2 ^ p * 2 / 2 ≡ 2 ^ p
     halved = omega arith
@@ -150,7 +160,7 @@ module _ (places : List ℕ) where
         most = omega arith;
         same =
             rw (m .same, one-mul (2 ^ getD places i 0), mod-eq-of-lt (pow-lt below)) (mask-or mostPlaces (λ p. contains p (take i places)) (getD places i 0) below
-            ∙ mask-same mostPlaces _ _ (λ p. sym (rw (add-one i, take-suc places i 0 lt) (contains-snoc p (take i places) (getD places i 0)))));
+            ∙ mask-same mostPlaces _ _ (λ p h. sym (rw (add-one i, take-suc places i 0 lt) (contains-snoc p (take i places) (getD places i 0)))));
       }
 
   pub mask-ended : (mask i : ℕ) → Masked places mask i → length places ≤ i → mask ≡ maskOf mostPlaces (λ p. contains p places)

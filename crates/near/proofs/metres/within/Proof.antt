@@ -5,7 +5,6 @@ use mathlib.Core.Logic.{⊎-elim}
 use borrow.Author.Tests.{le-leb, lt-leb}
 use lib.Dec.{leb}
 use lib.ListN.{length, getD}
-use native.Mathlib.Omega.{arith}
 use borrow.Author.Needs.{needs}
 use Rattle.workfunction.proofs.Counted.{Counted, count-begun, one-more, no-more, count-ended}
 use Rattle.near.specs.Count.{count}
