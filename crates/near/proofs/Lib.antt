@@ -1,3 +1,4 @@
+pub mod Cases
 pub mod Count
 pub mod Standing
 pub mod HeldPlaces

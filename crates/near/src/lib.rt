@@ -94,9 +94,10 @@ pub fn occupancy(book: Book, places: usize, table: &[u32]) -> Occupied
     let cranes = book.cranes;
     let stands = book.stands;
     let mask = mask::of_places(&stands[..cranes]);
+    let empty = !mask;
     Occupied {
         verdict: Verdict::Accepted,
         held: u64::count_ones(mask) as usize,
-        free: u64::trailing_zeros(!mask) as usize,
+        free: u64::trailing_zeros(empty) as usize,
     }
 }

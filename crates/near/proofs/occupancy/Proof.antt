@@ -48,8 +48,8 @@ slice-aggregate-of-places c = as-many-stands (arrays (c .before .before)) (sound
 of-places-requires : tie.Need-of-places-requires
 of-places-requires c κs = stands-in-table (arrays (c .before .before)) (sound (c .before .before))
 
-cast-t12 : tie.Need-cast-t12
-cast-t12 c = omega (arith, ones-le 64 (c .of-places .result) (rw (c .of-places .ensures) (mask-below mostPlaces _)))
+cast-t13 : tie.Need-cast-t13
+cast-t13 c = omega (arith, ones-le 64 (c .of-places .result) (rw (c .of-places .ensures) (mask-below mostPlaces _)))
 
 cast-t15 : tie.Need-cast-t15
 cast-t15 c = omega (arith, trailing-le 64 (18446744073709551615 - c .of-places .result))
@@ -68,6 +68,6 @@ occupancy-spec =
     array-share-prefix-stands
     slice-aggregate-of-places
     of-places-requires
-    cast-t12
+    cast-t13
     cast-t15
     returns-2)
