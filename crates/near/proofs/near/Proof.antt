@@ -6,6 +6,7 @@ use borrow.Author.Needs.{needs}
 use lib.Dec.{leb}
 use lib.ListN.{length, getD, take}
 use lib.Seq.{length-take-le}
+use native.Mathlib.Omega.{arith}
 use Rattle.base.proofs.Numbers.{accepts, refused-number}
 use Rattle.dayfile.specs.Day.{mostCranes}
 use Rattle.book.specs.Book.{BookArrays}
@@ -90,7 +91,8 @@ returns-2 : tie.Need-returns-2
 returns-2 c =
     let w = c .before in
     let k = w .before .before .before .before .before in
-    near-short _ _ _ _ (tested k) (arrays k) _ _ _ (counted w) (c .if1 .taken)
+    let a = k .before .before .before .before .before .args in
+    near-short _ _ _ _ (tested k) (arrays k) (a .distance) (a .out .now) (w .within .result) (counted w) (omega (arith, c .if1 .taken))
 
 array-share-prefix-metres-2 : tie.Need-array-share-prefix-metres-2
 array-share-prefix-metres-2 c = enough (c .before .before .before)

@@ -1,9 +1,10 @@
 -- `near::occupancy` meets its contract: a refusal of the book is handed up with zeros, else the answers are those of the mask of its
 -- stands. Assumes nothing.
-use Prim.Native.Nat.{_-_}
 use mathlib.Core.Path.{_≡_}
 use borrow.Author.Needs.{needs}
 use lib.Count.{ones-le, trailing-le}
+use lib.Dec.{lit<}
+use native.Mathlib.Nat.{lt-of-le-of-lt}
 use native.Mathlib.Omega.{arith}
 use Rattle.base.proofs.Numbers.{accepts, refused-number}
 use Rattle.road.specs.Table.{mostPlaces}
@@ -52,7 +53,7 @@ cast-t13 : tie.Need-cast-t13
 cast-t13 c = omega (arith, ones-le 64 (c .of-places .result) (rw (c .of-places .ensures) (mask-below mostPlaces _)))
 
 cast-t15 : tie.Need-cast-t15
-cast-t15 c = omega (arith, trailing-le 64 (18446744073709551615 - c .of-places .result))
+cast-t15 c = record { fits = lt-of-le-of-lt (trailing-le 64 _) (lit< tt) }
 
 returns-2 : tie.Need-returns-2
 returns-2 c = let k = c .before .before .before in occupancy-told _ _ _ (arrays k) (tested k) _ (c .of-places .ensures)

@@ -5,6 +5,7 @@ use mathlib.Core.Logic.{⊎-elim}
 use borrow.Author.Tests.{le-leb, lt-leb}
 use lib.Dec.{leb}
 use lib.ListN.{length, getD}
+use native.Mathlib.Omega.{arith}
 use borrow.Author.Needs.{needs}
 use Rattle.workfunction.proofs.Counted.{Counted, count-begun, one-more, no-more, count-ended}
 use Rattle.near.specs.Count.{count}
@@ -39,9 +40,11 @@ loop-again : tie.Need-loop-again Inv-loop μ-loop
 loop-again c =
     let l = c .before .before .before in
     let lt = c .before .before .loop-test .taken in
+    let a = l .before .args in
+    let m = getD (a .metres .now) (l .loop .s) 0 in
     ⊎-elim
-    (λ w. one-more _ _ (l .loop .count) (l .loop .s) _ (l .loop .inv) lt (le-leb _ _ (w .0 .taken)) (w .1))
-    (λ w. no-more _ _ (l .loop .count) (l .loop .s) _ (l .loop .inv) lt (lt-leb _ _ (w .0 .left)) (w .1))
+    (λ w. one-more _ _ (l .loop .count) (l .loop .s) _ (l .loop .inv) lt (le-leb m (a .distance) (omega (arith, w .0 .taken))) (w .1))
+    (λ w. no-more _ _ (l .loop .count) (l .loop .s) _ (l .loop .inv) lt (lt-leb m (a .distance) (omega (arith, w .0 .left))) (w .1))
     (c .if1 .came)
 
 returns : tie.Need-returns Inv-loop μ-loop
