@@ -104,7 +104,7 @@ fn commit(book: Book, table: &[u32], place: u16, crane: usize) -> Book {
 }
 
 // A book with entries past its counts that break every rule.
-fn spoiled(book: Book) -> Book {
+pub(crate) fn spoiled(book: Book) -> Book {
     entries::padded(book, STOP, WEIGHT, METRES)
 }
 

@@ -8,7 +8,7 @@ use road::Road;
 const END: u16 = 66;
 
 // The leg after a leg: by second place, then by first.
-fn after(leg: Pair) -> Pair {
+pub(crate) fn after(leg: Pair) -> Pair {
     let first = std::num::wrapping_add_u16(leg.first, 1);
     if first < leg.second {
         return Pair {

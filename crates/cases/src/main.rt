@@ -7,6 +7,7 @@ mod entries;
 mod files;
 mod legs;
 mod line;
+mod nearby;
 mod nets;
 mod prints;
 mod sheets;
@@ -101,7 +102,14 @@ Legs by their index: the number and the places; by their places: the number and 
 38 of all 2016 legs, how many are found by their index, how many by their places, how many stand in the table that is held, and in the one that is worked out
 39 1500, 2015, 2016 and 18446744073709551615
 40 15 and 55, 62 and 63, 3 and 3, 4 and 3, 0 and 64, 0 and 65535
-41 of the 4356 pairs of numbers below 66, how many are refused",
+41 of the 4356 pairs of numbers below 66, how many are refused
+Cranes near a place: the number, how many, the nearest and the list; then how many answers are those of a search through all cranes for each entry. Places that hold a crane: the number, how many and the lowest that holds none, and the two counted place by place.
+42 four cranes over four places, two of them at place 1, which is 0 metres from place 0: each place and place 4 within 0, 4, 5 and 9 metres; the places held; how many of 720 questions are answered rightly, with eight distances and buffers for 0 to 17 numbers
+43 the same of one crane at place 3
+44 the same of the book of 42 after two cranes were sent
+45 the same with entries past the counts that break every rule
+46 a list of three into 2, 3 and 4 numbers; 5 before 11; without cranes, 6 before both; and the places held
+47 sixteen cranes at 16 places of 16, of 64, and at one of one",
     );
 }
 
@@ -112,5 +120,6 @@ fn main() {
     memory(&file, &[10, 20, 15], &[10, 26, 15], &[10, 20]);
     legs::each();
     legs::some();
+    nearby::each(&[0, 5, 5, 9, 9, 4]);
     line::text(b"\n");
 }
