@@ -76,7 +76,7 @@ readFile bs = answerOf (records bs) (tested bs)
 abbrev pub readTable : List ℕ → Table
 readTable bs = runOf (readFile bs .day .places) (readFile bs .table)
 
--- the number, 0 where the day is written; how many bytes; the whole buffer
+-- of what is written into a lent buffer: the number, 0 where it is; how many entries; the whole buffer
 pub record Output : Type 0 where
   pub number : ℕ
   pub length : ℕ
@@ -93,7 +93,7 @@ written r out = record { number = numberOf (r .verdict); length = r .length; buf
 abbrev pub dayBytes : Day → (ℕ → ℕ → ℕ) → List ℕ
 dayBytes day d = encodeAll (dayRecords day d)
 
--- bytes written into a buffer where the number is 0: "written output past the result's length is unchanged"; refused, all of it is
+-- bytes, or other numbers, written into a buffer where the number is 0: "written output past the result's length is unchanged"; refused, all of it is
 abbrev pub outputBy : ℕ → List ℕ → List ℕ → Output
 outputBy number bytes out =
     unlessRefused number (record { number = 0; length = length bytes; buffer = splice 0 bytes out }) (λ n. record { number = n; length = 0; buffer = out })

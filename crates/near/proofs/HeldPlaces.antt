@@ -21,7 +21,7 @@ use Rattle.book.specs.Book.{BookArrays, bookRefusal}
 use Rattle.book.proofs.Sound.{Sound, book-sound}
 use Rattle.near.specs.Count.{count, first}
 use Rattle.near.specs.Mask.{maskOf}
-use Rattle.near.specs.Occupancy.{holds, HeldPlaces, occupancyOf}
+use Rattle.near.specs.Occupancy.{holdsCrane, HeldPlaces, occupancyOf}
 use Rattle.near.proofs.Count.{count-none, count-wider, first-wider}
 use Rattle.near.proofs.Standing.{few-places, none-past}
 use Rattle.near.proofs.mask.Laws.{mask-ones, mask-free}
@@ -61,19 +61,19 @@ module _ (book : Book) (n : ℕ) (t : Table) where
   unfolding occupancyOf
   occupancy-refused m e h = rw (← e) (zeros-told m _ (λ k. record { number = k; held = 0; free = 0 }) h)
 
-  module _ (arrays : BookArrays book) (accepted : bookRefusal book n t ≡ 0) (mask : ℕ) (same : mask ≡ maskOf mostPlaces (holds book)) where
+  module _ (arrays : BookArrays book) (accepted : bookRefusal book n t ≡ 0) (mask : ℕ) (same : mask ≡ maskOf mostPlaces (holdsCrane book)) where
     sound : Sound book n t
     sound = book-sound accepted
 
-    pub ones-held : ones mask ≡ count n (holds book)
+    pub ones-held : ones mask ≡ count n (holdsCrane book)
     ones-held =
-        ap ones same ∙ mask-ones mostPlaces (holds book)
-        ∙ count-wider (holds book) n mostPlaces (few-places arrays sound) (λ p past lt. none-past arrays sound p past)
+        ap ones same ∙ mask-ones mostPlaces (holdsCrane book)
+        ∙ count-wider (holdsCrane book) n mostPlaces (few-places arrays sound) (λ p past lt. none-past arrays sound p past)
 
-    pub zeros-free : trailingZeros mostPlaces ((2 ^ mostPlaces - 1) - mask) ≡ first n (λ p. not (holds book p))
+    pub zeros-free : trailingZeros mostPlaces ((2 ^ mostPlaces - 1) - mask) ≡ first n (λ p. not (holdsCrane book p))
     zeros-free =
-        rw same (mask-free mostPlaces (holds book)
-        ∙ first-wider n mostPlaces (λ p. not (holds book p)) (few-places arrays sound) (λ p past lt. rw (none-past arrays sound p past)))
+        rw same (mask-free mostPlaces (holdsCrane book)
+        ∙ first-wider n mostPlaces (λ p. not (holdsCrane book p)) (few-places arrays sound) (λ p past lt. rw (none-past arrays sound p past)))
 
     pub occupancy-told : _≡_ {A = HeldPlaces}
         (record { number = 0; held = ones mask; free = trailingZeros mostPlaces ((2 ^ mostPlaces - 1) - mask) }) (occupancyOf book n t)

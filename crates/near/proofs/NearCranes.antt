@@ -20,9 +20,9 @@ use Rattle.book.specs.declared.Book.{Book}
 use Rattle.book.specs.Book.{standsOf, BookArrays, bookRefusal}
 use Rattle.book.proofs.Sound.{Sound, book-sound}
 use Rattle.near.specs.Count.{count}
-use Rattle.near.specs.Near.{ranked, cranesWithin, nearest, drivesOf, nearRefusal, NearCranes, nearOf}
+use Rattle.near.specs.Near.{nth, cranesWithin, nearest, drivesOf, nearRefusal, NearCranes, nearOf}
 use Rattle.near.proofs.Standing.{as-many-stands, some-stand}
-use Rattle.near.proofs.order.Laws.{within-front, nearest-ranked}
+use Rattle.near.proofs.order.Laws.{within-front, nearest-nth}
 
 -- the list that was written, and the nearest beside it
 beside : (metres : List ℕ) (told list : Output) (s : ℕ) → told ≡ list → unlessRefused (told .number) (nearest metres) (λ m. 0) ≡ s
@@ -56,11 +56,11 @@ module _ (book : Book) (n : ℕ) (t : Table) (place : ℕ) where
           ∙ take-padded mostCranes (length (standsOf book)) (drive (metresOf t) (standsOf book) place) 0
 
       module _ (distance : ℕ) (out : List ℕ) (c : ℕ) (counted : c ≡ count (length metres) (λ s. leb (getD metres s 0) distance)) where
-        listed : cranesWithin metres distance ≡ upTo c (ranked metres)
+        listed : cranesWithin metres distance ≡ upTo c (nth metres)
         listed = rw counted (within-front metres distance)
 
         long : length (cranesWithin metres distance) ≡ c
-        long = ap length listed ∙ length-upTo c (ranked metres)
+        long = ap length listed ∙ length-upTo c (nth metres)
 
         -- 11
         pub near-short : length out < c
@@ -68,9 +68,9 @@ module _ (book : Book) (n : ℕ) (t : Table) (place : ℕ) where
         unfolding nearOf
         near-short h = beside metres _ _ 0 (output-short _ _ out accepted long h) refl
 
-        pub near-told : (now : List ℕ) (s : ℕ) → c ≤ length out → now ≡ splice 0 (upTo c (ranked metres)) out → s ≡ ranked metres 0
+        pub near-told : (now : List ℕ) (s : ℕ) → c ≤ length out → now ≡ splice 0 (upTo c (nth metres)) out → s ≡ nth metres 0
             → _≡_ {A = NearCranes} (record { list = record { number = 0; length = c; buffer = now }; nearest = s }) (nearOf book n t place distance out)
         unfolding nearOf
         near-told now s h e first =
             beside metres _ _ s (output-written _ _ out accepted long now h (rw listed e))
-            (nearest-ranked metres (rw length-upTo (some-stand arrays near-sound)) ∙ sym first)
+            (nearest-nth metres (rw length-upTo (some-stand arrays near-sound)) ∙ sym first)

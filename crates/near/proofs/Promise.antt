@@ -28,7 +28,7 @@ use Rattle.book.proofs.Ignored.{past-counts-ignored}
 use Rattle.book.proofs.Sound.{Sound, book-sound}
 use Rattle.near.specs.Count.{count, first}
 use Rattle.near.specs.Near.{precedes, cranesWithin, nearest, drivesOf, nearRefusal, cranesTold, nearOf}
-use Rattle.near.specs.Occupancy.{holds, HeldPlaces, occupancyOf}
+use Rattle.near.specs.Occupancy.{holdsCrane, HeldPlaces, occupancyOf}
 use Rattle.near.proofs.Count.{first-most, first-none, first-passes, first-lowest}
 use Rattle.near.proofs.HeldPlaces.{places-most}
 use Rattle.near.proofs.NearCranes.{near-sound}
@@ -158,10 +158,10 @@ same-near a b n t place distance out books = rw (past-counts-ignored a b n t boo
 -- ---- the places that hold a crane
 
 -- a place holds a crane if and only if one stands there
-pub stand-held : (book : Book) (s : ℕ) → s < length (standsOf book) → holds book (getD (standsOf book) s 0) ≡ true
+pub stand-held : (book : Book) (s : ℕ) → s < length (standsOf book) → holdsCrane book (getD (standsOf book) s 0) ≡ true
 stand-held book s lt = contains-yes (entry-in (standsOf book) s lt)
 
-pub held-stand : (book : Book) (p : ℕ) → holds book p ≡ true → (s : ℕ) × (s < length (standsOf book)) × (getD (standsOf book) s 0 ≡ p)
+pub held-stand : (book : Book) (p : ℕ) → holdsCrane book p ≡ true → (s : ℕ) × (s < length (standsOf book)) × (getD (standsOf book) s 0 ≡ p)
 held-stand book p h = slot-of (contains-in p (standsOf book) h)
 
 module _ (book : Book) (n : ℕ) (t : Table) where
@@ -170,7 +170,7 @@ module _ (book : Book) (n : ℕ) (t : Table) where
     unfolding occupancyOf
     tested = accepted-values {A = HeldPlaces} (bookRefusal book n t) _ (λ m. record { number = m; held = 0; free = 0 }) (λ r. r .number) (λ m. refl) accepted
 
-    freed : occupancyOf book n t .free ≡ first n (λ p. not (holds book p))
+    freed : occupancyOf book n t .free ≡ first n (λ p. not (holdsCrane book p))
     unfolding occupancyOf
     freed = rw tested
 
@@ -182,16 +182,16 @@ module _ (book : Book) (n : ℕ) (t : Table) where
 
     -- "the lowest place that holds none, or the number of places if all do"
     pub free-most : occupancyOf book n t .free ≤ n
-    free-most = rw freed (first-most n (λ p. not (holds book p)))
+    free-most = rw freed (first-most n (λ p. not (holdsCrane book p)))
 
-    pub free-empty : occupancyOf book n t .free < n → holds book (occupancyOf book n t .free) ≡ false
-    free-empty lt = rw freed (not-true _ (first-passes n (λ p. not (holds book p)) (rw freed at lt)))
+    pub free-empty : occupancyOf book n t .free < n → holdsCrane book (occupancyOf book n t .free) ≡ false
+    free-empty lt = rw freed (not-true _ (first-passes n (λ p. not (holdsCrane book p)) (rw freed at lt)))
 
-    pub free-lowest : (p : ℕ) → p < occupancyOf book n t .free → holds book p ≡ true
-    free-lowest p lt = not-false _ (first-lowest n (λ p. not (holds book p)) p (rw freed at lt))
+    pub free-lowest : (p : ℕ) → p < occupancyOf book n t .free → holdsCrane book p ≡ true
+    free-lowest p lt = not-false _ (first-lowest n (λ p. not (holdsCrane book p)) p (rw freed at lt))
 
-    pub all-held : ((p : ℕ) → p < n → holds book p ≡ true) → occupancyOf book n t .free ≡ n
-    all-held all = freed ∙ first-none n (λ p. not (holds book p)) (λ p lt. rw (all p lt))
+    pub all-held : ((p : ℕ) → p < n → holdsCrane book p ≡ true) → occupancyOf book n t .free ≡ n
+    all-held all = freed ∙ first-none n (λ p. not (holdsCrane book p)) (λ p lt. rw (all p lt))
 
 -- entries past the counts are ignored
 pub same-occupancy : (a b : Book) (n : ℕ) (t : Table) → SameBook a b → occupancyOf a n t ≡ occupancyOf b n t

@@ -14,7 +14,7 @@ use Rattle.book.specs.declared.Book.{Book}
 use Rattle.book.specs.Book.{standsOf, BookArrays}
 use Rattle.book.proofs.Sound.{Sound, sound-fits, stands-long, placed}
 use Rattle.near.specs.Mask.{InTable}
-use Rattle.near.specs.Occupancy.{holds}
+use Rattle.near.specs.Occupancy.{holdsCrane}
 
 module _ {book : Book} {n : ℕ} {t : Table} (arrays : BookArrays book) (sound : Sound book n t) where
   pub enough-stands : book .cranes ≤ length (book .stands)
@@ -36,7 +36,7 @@ module _ {book : Book} {n : ℕ} {t : Table} (arrays : BookArrays book) (sound :
   stands-in-table s lt = lt-of-lt-of-le (stop-below n (standsOf book) (sound .stands) s lt) few-places
 
   -- no crane stands past the places
-  pub none-past : (p : ℕ) → n ≤ p → holds book p ≡ false
+  pub none-past : (p : ℕ) → n ≤ p → holdsCrane book p ≡ false
   none-past p le = go (contains p (standsOf book)) refl
     where
       go : (b : Bool) → contains p (standsOf book) ≡ b → contains p (standsOf book) ≡ false

@@ -10,8 +10,8 @@ use Rattle.near.specs.declared.Occupied.{Occupied}
 use Rattle.near.specs.Count.{count, first}
 
 -- a crane stands at place p
-abbrev pub holds : Book → ℕ → Bool
-holds book p = contains p (standsOf book)
+abbrev pub holdsCrane : Book → ℕ → Bool
+holdsCrane book p = contains p (standsOf book)
 
 -- the number, 0 where the book is sound; the two answers
 pub record HeldPlaces : Type 0 where
@@ -25,5 +25,5 @@ heldPlaces r = record { number = numberOf (r .verdict); held = r .held; free = r
 -- "how many different places hold a crane, and the lowest place that holds none, or the number of places if all do"
 unfoldable pub occupancyOf : Book → ℕ → Table → HeldPlaces
 occupancyOf book n t =
-    unlessRefused (bookRefusal book n t) (record { number = 0; held = count n (holds book); free = first n (λ p. not (holds book p)) })
+    unlessRefused (bookRefusal book n t) (record { number = 0; held = count n (holdsCrane book); free = first n (λ p. not (holdsCrane book p)) })
     (λ m. record { number = m; held = 0; free = 0 })

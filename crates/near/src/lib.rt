@@ -75,7 +75,7 @@ pub fn near(
     Nearby {
         verdict: Verdict::Accepted,
         count,
-        nearest: order::ranked(&metres[..cranes], 0),
+        nearest: order::nth(&metres[..cranes], 0),
     }
 }
 

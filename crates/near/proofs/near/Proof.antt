@@ -112,11 +112,11 @@ put-requires c κs =
 array-share-prefix-metres-3 : tie.Need-array-share-prefix-metres-3
 array-share-prefix-metres-3 c = enough (c .before .before .before .before .before .before .before .before)
 
-slice-aggregate-ranked : tie.Need-slice-aggregate-ranked
-slice-aggregate-ranked c = sym (length-take-le _ _ (enough (c .before .before .before .before .before .before .before .before .before)))
+slice-aggregate-nth : tie.Need-slice-aggregate-nth
+slice-aggregate-nth c = sym (length-take-le _ _ (enough (c .before .before .before .before .before .before .before .before .before)))
 
-ranked-requires : tie.Need-ranked-requires
-ranked-requires c κs = search needs
+nth-requires : tie.Need-nth-requires
+nth-requires c κs = search needs
 
 same-length : tie.Need-same-length
 same-length c = search needs
@@ -126,7 +126,7 @@ returns-3 c =
     let w = c .before .before .before .before .before .before .before .before in
     let f = w .before .before in
     let k = f .before .before .before in
-    near-told _ _ _ _ (tested k) (arrays k) _ _ _ (counted w) _ _ (c .before .before .before .before .before .before .before .if1 .left) (rw (found f) at (c .before .before .before .before .put .ensures)) (rw (found f) at (c .ranked .ensures))
+    near-told _ _ _ _ (tested k) (arrays k) _ _ _ (counted w) _ _ (c .before .before .before .before .before .before .before .if1 .left) (rw (found f) at (c .before .before .before .before .put .ensures)) (rw (found f) at (c .nth .ensures))
 
 pub near-spec : {M : Type 1} → statement M
 near-spec =
@@ -147,7 +147,7 @@ near-spec =
     slice-aggregate-put
     put-requires
     array-share-prefix-metres-3
-    slice-aggregate-ranked
-    ranked-requires
+    slice-aggregate-nth
+    nth-requires
     same-length
     returns-3)
