@@ -2,19 +2,19 @@
 -- half is what is told over the square, whatever the other inputs are, refused ones included. Assumes nothing.
 use Prim.Native.Nat.{ℕ, zero, suc, _<_, suc-le-suc}
 use mathlib.Core.Bool.{true}
-use mathlib.Core.List.{List, [], _++_, List·Memᴰ}
+use mathlib.Core.List.{List, [], _∷_, _++_, List·Memᴰ}
 use mathlib.Core.Path.{_≡_, refl, sym, ap, ap₂, _∙_}
 use lib.IntN.{ℤ, pos}
 use lib.ListN.{length}
 use native.Mathlib.Nat.{le-of-lt, le-refl}
 use Rattle.base.proofs.Lists.{upTo-same, padded-same}
-use Rattle.base.proofs.Numbers.{unless-zero, told-alike, same-tests}
+use Rattle.base.proofs.Numbers.{unless-zero, then-zero, told-alike, same-tests}
 use Rattle.road.specs.Table.{inOrder, metresOf}
 use Rattle.dayfile.specs.declared.Day.{Day}
 use Rattle.dayfile.specs.Day.{mostCranes, stopsRule, stopsRefusal, dayStarts, dayRequests, countsRefusal, placedRefusal, dayRefusal, dayRecords}
 use Rattle.dayfile.specs.File.{dayBytes, writeFile}
 use Rattle.dayfile.specs.Legs.{leg}
-use Rattle.dayfile.proofs.Limits.{Tested, day-placed, day-tested}
+use Rattle.dayfile.proofs.Limits.{stop-below, Tested, day-placed, day-tested}
 use Rattle.workfunction.specs.Position.{Position}
 use Rattle.workfunction.proofs.Serving.{stands-placed}
 use Rattle.workfunction.proofs.Same.{distance-same, work-same, floor-same, workThen-same, drive-same, netCost-same, served-same, serve-same, standsAfter-same}
@@ -23,6 +23,9 @@ use Rattle.book.specs.Book.{startsOf, standsOf, requestsOf, stopsOf, planRefusa
 use Rattle.book.proofs.Places.{same-costs}
 use Rattle.book.proofs.Sound.{placed, Sound, book-sound}
 use Rattle.book.proofs.Vouching.{over-legs}
+use Rattle.near.specs.Near.{nearOf}
+use Rattle.near.specs.Occupancy.{occupancyOf}
+use Rattle.near.proofs.NearCranes.{near-alike}
 use Rattle.dispatch.specs.Commit.{commitRefusal, commitOf}
 use Rattle.dispatch.specs.Costs.{costsOf}
 use Rattle.dispatch.specs.NetCosts.{netsOf}
@@ -31,7 +34,7 @@ use Rattle.dispatch.specs.ServedDay.{homeOf, servedDay}
 use Rattle.dispatch.proofs.Called.{Called, quote-called, commit-called}
 use Rattle.sheet.specs.Sheet.{sheetRows, sheetOf}
 use Rattle.half.specs.Square.{Square, squareMetres, squareRefusal, halfOf}
-use Rattle.half.specs.Told.{squarePlacedRefusal, squareDayRefusal, squareBookRefusal, squareFresh, squareCosts, squareQuoteRefusal, squareQuote, squareNets, squareCommitRefusal, squareCommit, squareServed, squareSheet, squareFile}
+use Rattle.half.specs.Told.{squarePlacedRefusal, squareDayRefusal, squareBookRefusal, squareFresh, squareCosts, squareQuoteRefusal, squareQuote, squareNets, squareCommitRefusal, squareCommit, squareNear, squareOccupancy, squareServed, squareSheet, squareFile}
 use Rattle.half.proofs.Half.{half-distance, half-places, half-run, half-metres, square-legs, half-triangles, square-triangles}
 
 -- places that keep their rule, as many as they are
@@ -132,7 +135,23 @@ module _ (book : Book) (n : ℕ) (s : Square) (h : squareRefusal n s ≡ 0) wher
       rw (least, floor))
       (λ k. refl)
 
+  -- the places that hold a crane
+  pub half-occupancy : occupancyOf book n (halfOf n s) ≡ squareOccupancy book n s
+  unfolding occupancyOf squareOccupancy
+  half-occupancy = rw half-book
+
   module _ (r : ℕ) where
+    -- the cranes near a place
+    pub half-near : (distance : ℕ) (out : List ℕ) → nearOf book n (halfOf n s) r distance out ≡ squareNear book n s r distance out
+    unfolding nearOf squareNear
+    half-near distance out =
+        rw half-book
+        (near-alike _ _ _ distance out (λ z.
+        let both = then-zero (squareBookRefusal book n s) _ z in
+        let sound : Sound book n (halfOf n s) = book-sound (half-book ∙ both .0) in
+        let on = stop-below n (r ∷ []) (unless-zero _ 4 (both .1)) 0 (le-refl 1) in
+        upTo-same _ _ _ (λ i lt. drive-same (half-distance n s h) (started sound) (requestsOf book) (standing sound) on i)))
+
     half-quote-number : quoteRefusal book n (halfOf n s) r ≡ squareQuoteRefusal book n s r
     half-quote-number = rw half-book
 

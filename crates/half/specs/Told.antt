@@ -1,9 +1,10 @@
 -- What is told over a square: for every input the tests of a day and of a book, and what each function of the library gives, with the
 -- metres of the square.
 use Prim.Native.Nat.{ℕ}
+use mathlib.Core.Bool.{not}
 use mathlib.Core.List.{List, [], _∷_, _++_, flatMap}
 use lib.IntN.{ℤ, pos}
-use lib.ListN.{replicate}
+use lib.ListN.{length, replicate}
 use Rattle.base.specs.Lists.{upTo, padded}
 use Rattle.base.specs.Numbers.{unless, _then_, unlessRefused}
 use Rattle.road.specs.Table.{placesRefusal}
@@ -17,6 +18,9 @@ use Rattle.workfunction.specs.Position.{distance}
 use Rattle.workfunction.specs.Serving.{served, serve, standsAfter}
 use Rattle.book.specs.declared.Book.{Book}
 use Rattle.book.specs.Book.{startsOf, standsOf, requestsOf, drivenOf, stopsOf, planRefusal, weightsRefusal, drivenRefusal, bookDay, freshBook, emptyBook, Opened}
+use Rattle.near.specs.Count.{count, first}
+use Rattle.near.specs.Near.{NearCranes, nearAfter}
+use Rattle.near.specs.Occupancy.{holdsCrane, HeldPlaces}
 use Rattle.dispatch.specs.Commit.{askedCraneRefusal, tidied, bookAfter, Committed}
 use Rattle.dispatch.specs.Costs.{TwoCosts}
 use Rattle.dispatch.specs.NetCosts.{NetList}
@@ -93,6 +97,19 @@ squareCommit book n s r c plan weights =
       book = bookAfter (tidied book) c r (drive (squareMetres s) (standsOf book) r c) plan weights;
     })
     (λ m. record { number = m; least = 0; book = book })
+
+-- paper 9: the cranes near a place, into a buffer
+unfoldable pub squareNear : Book → ℕ → Square → ℕ → ℕ → List ℕ → NearCranes
+squareNear book n s place distance out =
+    nearAfter (squareBookRefusal book n s then stopsRefusal n (place ∷ []))
+    (upTo (length (standsOf book)) (drive (squareMetres s) (standsOf book) place)) distance out
+
+-- paper 9: the places that hold a crane
+unfoldable pub squareOccupancy : Book → ℕ → Square → HeldPlaces
+squareOccupancy book n s =
+    unlessRefused (squareBookRefusal book n s)
+    (record { number = 0; held = count n (holdsCrane book); free = first n (λ p. not (holdsCrane book p)) })
+    (λ m. record { number = m; held = 0; free = 0 })
 
 -- the served day
 unfoldable pub squareServed : Day → Square → DayFigures

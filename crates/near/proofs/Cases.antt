@@ -17,7 +17,7 @@ use Rattle.workfunction.specs.Plan.{mayFollow, follows, followersRule, onceRule
 use Rattle.book.specs.declared.Book.{Book}
 use Rattle.book.specs.Book.{mostStops, weightRule, bookRefusal, freshBook}
 use Rattle.near.specs.Count.{count, first}
-use Rattle.near.specs.Near.{precedes, ahead, nth, ordered, cranesWithin, nearest, NearCranes, nearOf}
+use Rattle.near.specs.Near.{precedes, ahead, nth, ordered, cranesWithin, nearest, NearCranes, nearAfter, nearOf}
 use Rattle.near.specs.Occupancy.{HeldPlaces, occupancyOf}
 
 -- ---- cranes by their metres
@@ -90,7 +90,7 @@ pub nears-agree :
     nearOf sent 3 table 0 4 (99 ∷ []) ∷
     []
     ≡ near 0 0 [] 1 ∷ near 0 1 (1 ∷ 98 ∷ []) 1 ∷ near 11 0 (99 ∷ []) 0 ∷ near 5 0 [] 0 ∷ near 6 0 [] 0 ∷ near 0 0 (99 ∷ []) 0 ∷ []
-unfolding nearOf outputOf splice bookRefusal freshBook placedRefusal countsRefusal runRefusal within allBelow legCount metresOf drive sumBelow filter upTo headD mayFollow follows followersRule onceRule planRule slackRule vouchAt vouchRule place legCost weightRule count first precedes ahead nth ordered cranesWithin nearest
+unfolding nearOf nearAfter outputOf splice bookRefusal freshBook placedRefusal countsRefusal runRefusal within allBelow legCount metresOf drive sumBelow filter upTo headD mayFollow follows followersRule onceRule planRule slackRule vouchAt vouchRule place legCost weightRule count first precedes ahead nth ordered cranesWithin nearest
 nears-agree = refl
 
 -- what is told: the number, how many places, the lowest free one

@@ -5,7 +5,7 @@ use mathlib.Core.Bool.{true, false, not}
 use mathlib.Core.List.{List, List·Memᴰ}
 use mathlib.Core.Logic.{_⊎_, ⊎-elim}
 use mathlib.Core.Path.{_≡_, refl, sym, ap, subst, _∙_}
-use borrow.Author.Tests.{not-true, not-false}
+use borrow.Author.Tests.{le-leb, not-true, not-false}
 use lib.Dec.{leb, ltb}
 use lib.ListN.{length, getD, drop}
 use native.Mathlib.Decide.{ℕ-discrete}
@@ -27,13 +27,13 @@ use Rattle.book.specs.Book.{standsOf, BookArrays, SameBook, bookRefusal}
 use Rattle.book.proofs.Ignored.{past-counts-ignored}
 use Rattle.book.proofs.Sound.{Sound, book-sound}
 use Rattle.near.specs.Count.{count, first}
-use Rattle.near.specs.Near.{precedes, cranesWithin, nearest, drivesOf, nearRefusal, cranesTold, nearOf}
+use Rattle.near.specs.Near.{precedes, cranesWithin, nearest, drivesOf, nearRefusal, NearCranes, nearAfter, nearOf, cranesTold}
 use Rattle.near.specs.Occupancy.{holdsCrane, HeldPlaces, occupancyOf}
 use Rattle.near.proofs.Count.{first-most, first-none, first-passes, first-lowest}
 use Rattle.near.proofs.HeldPlaces.{places-most}
 use Rattle.near.proofs.NearCranes.{near-sound}
 use Rattle.near.proofs.Standing.{as-many-stands}
-use Rattle.near.proofs.order.Laws.{precedes-told, within-in, in-within, within-ascend, nearest-below, nearest-first, nearest-heads}
+use Rattle.near.proofs.order.Laws.{precedes-told, within-few, within-in, in-within, within-ascend, nearest-below, nearest-first, nearest-heads}
 
 -- ---- the cranes near a place
 
@@ -42,62 +42,80 @@ module _ (book : Book) (n : ℕ) (t : Table) (place distance : ℕ) (out : List 
   abbrev metres : ℕ → ℕ
   metres = drive (metresOf t) (standsOf book) place
 
+  abbrev drives : List ℕ
+  drives = drivesOf book t place
+
+  abbrev list : List ℕ
+  list = cranesWithin drives distance
+
+  -- what is told, and the crane numbers that were written
+  abbrev answer : NearCranes
+  answer = nearOf book n t place distance out
+
   abbrev told : List ℕ
-  told = cranesTold (nearOf book n t place distance out)
+  told = cranesTold answer
 
   -- "A place outside the table gives 5, and then a short buffer 11": after the book's tests, a buffer shorter than the list
   abbrev number : ℕ
-  number = bookRefusal book n t then unless (ltb place n) 5 then unless (leb (length (cranesWithin (drivesOf book t place) distance)) (length out)) 11
+  number = bookRefusal book n t then unless (ltb place n) 5 then unless (leb (length list) (length out)) 11
 
-  numbers : (nearRefusal book n t place then unless (leb (length (cranesWithin (drivesOf book t place) distance)) (length out)) 11) ≡ number
+  numbers : (nearRefusal book n t place then unless (leb (length list) (length out)) 11) ≡ number
   unfolding allBelow
   numbers = then-assoc (bookRefusal book n t) (unless (ltb place n) 5) _
 
-  pub near-number : nearOf book n t place distance out .list .number ≡ number
-  unfolding nearOf
+  pub near-number : answer .list .number ≡ number
+  unfolding nearOf nearAfter
   near-number = output-number (nearRefusal book n t place) _ out ∙ numbers
 
   -- refused: the number, zeros, and the buffer as it was given
-  pub near-kept : (nearOf book n t place distance out .list .number ≡ 0 → ⊥)
-      → nearOf book n t place distance out ≡ record { list = record { number = number; length = 0; buffer = out }; nearest = 0 }
-  unfolding nearOf
+  pub near-kept : (answer .list .number ≡ 0 → ⊥)
+      → answer ≡ record { list = record { number = number; length = 0; buffer = out }; nearest = 0 }
+  unfolding nearOf nearAfter
   near-kept h =
-      let refused = output-kept (nearRefusal book n t place) (cranesWithin (drivesOf book t place) distance) out h in
-      let zero = zeros-told _ (nearest (drivesOf book t place)) (λ m. 0) h in
+      let refused = output-kept (nearRefusal book n t place) list out h in
+      let zero = zeros-told _ (nearest drives) (λ m. 0) h in
       rw (← zero, refused, numbers)
 
-  module _ (accepted : nearOf book n t place distance out .list .number ≡ 0) (arrays : BookArrays book) where
+  -- a buffer for all cranes is never short
+  pub near-fits : BookArrays book → nearRefusal book n t place ≡ 0 → book .cranes ≤ length out → answer .list .number ≡ 0
+  unfolding nearOf nearAfter
+  near-fits arrays tests room =
+      let few = within-few drives distance in
+      let many = length-upTo (length (standsOf book)) metres ∙ sym (as-many-stands arrays (near-sound book n t place tests)) in
+      output-number (nearRefusal book n t place) _ out ∙ rw (tests, le-leb (length list) (length out) (omega arith))
+
+  module _ (accepted : answer .list .number ≡ 0) (arrays : BookArrays book) where
     tests : nearRefusal book n t place ≡ 0
-    unfolding nearOf
+    unfolding nearOf nearAfter
     tests = output-accepted (nearRefusal book n t place) _ out accepted .0
 
     sound : Sound book n t
     sound = near-sound book n t place tests
 
-    list : told ≡ cranesWithin (drivesOf book t place) distance
-    unfolding nearOf
-    list = output-bytes (nearRefusal book n t place) _ out accepted
+    listed : told ≡ list
+    unfolding nearOf nearAfter
+    listed = output-bytes (nearRefusal book n t place) _ out accepted
 
-    many : length (drivesOf book t place) ≡ book .cranes
+    many : length drives ≡ book .cranes
     many = length-upTo (length (standsOf book)) metres ∙ sym (as-many-stands arrays sound)
 
-    driven : (s : ℕ) → s < book .cranes → getD (drivesOf book t place) s 0 ≡ metres s
+    driven : (s : ℕ) → s < book .cranes → getD drives s 0 ≡ metres s
     driven s lt = getD-upTo (length (standsOf book)) metres s 0 (rw (← as-many-stands arrays sound) lt)
 
     -- of crane s and crane u the first is nearer, or as near with the lower number
     abbrev Before : ℕ → ℕ → Type 0
     Before s u = (metres s < metres u) ⊎ ((metres s ≡ metres u) × (s < u))
 
-    before : (s u : ℕ) → s < book .cranes → u < book .cranes → precedes (drivesOf book t place) s u ≡ true → Before s u
-    before s u hs hu p = rw (driven s hs, driven u hu) at (precedes-told (drivesOf book t place) s u p)
+    before : (s u : ℕ) → s < book .cranes → u < book .cranes → precedes drives s u ≡ true → Before s u
+    before s u hs hu p = rw (driven s hs, driven u hu) at (precedes-told drives s u p)
 
     -- "the cranes within a given distance of a place, the distance itself included": those that are, and no others
     pub near-within : (s : ℕ) → s < book .cranes → metres s ≤ distance → List·Memᴰ s told
-    near-within s lt le = rw list (within-in (drivesOf book t place) distance s (rw many lt) (rw (driven s lt) le))
+    near-within s lt le = rw listed (within-in drives distance s (rw many lt) (rw (driven s lt) le))
 
     pub within-near : (s : ℕ) → List·Memᴰ s told → (s < book .cranes) × (metres s ≤ distance)
     within-near s m =
-        let found = in-within (drivesOf book t place) distance s (rw list at m) in
+        let found = in-within drives distance s (rw listed at m) in
         let lt : s < book .cranes = rw many at (found .0) in
         (lt, rw (driven s lt) at (found .1))
 
@@ -107,7 +125,7 @@ module _ (book : Book) (n : ℕ) (t : Table) (place distance : ℕ) (out : List 
     -- "ordered by metres and then by number"
     pub near-ascends : (i j : ℕ) → i < j → j < length told → Before (getD told i 0) (getD told j 0)
     near-ascends i j lt h =
-        before _ _ (entry i (omega arith)) (entry j h) (rw list (within-ascend (drivesOf book t place) distance i j lt (rw list at h)))
+        before _ _ (entry i (omega arith)) (entry j h) (rw listed (within-ascend drives distance i j lt (rw listed at h)))
 
     -- no crane is listed twice
     pub near-once : (i j : ℕ) → i < length told → j < length told → getD told i 0 ≡ getD told j 0 → i ≡ j
@@ -118,41 +136,41 @@ module _ (book : Book) (n : ℕ) (t : Table) (place distance : ℕ) (out : List 
         apart s u e b = ⊎-elim (λ (l : metres s < metres u). lt-irrefl (metres u) (rw e at l)) (λ (p : (metres s ≡ metres u) × (s < u)). let l = p .1 in lt-irrefl u (rw e at l)) b
 
     -- "written output past the result's length is unchanged"
-    pub near-past : let r = nearOf book n t place distance out .list in drop (r .length) (r .buffer) ≡ drop (r .length) out
-    unfolding nearOf
+    pub near-past : let r = answer .list in drop (r .length) (r .buffer) ≡ drop (r .length) out
+    unfolding nearOf nearAfter
     near-past = output-past (nearRefusal book n t place) _ out accepted
 
     -- "the first in that order of all cranes, within the distance or not"
-    nearest-told : nearOf book n t place distance out .nearest ≡ nearest (drivesOf book t place)
-    unfolding nearOf
+    nearest-told : answer .nearest ≡ nearest drives
+    unfolding nearOf nearAfter
     nearest-told = rw accepted
 
-    pub nearest-crane : nearOf book n t place distance out .nearest < book .cranes
+    pub nearest-crane : answer .nearest < book .cranes
     nearest-crane =
-        subst (λ (k : ℕ). nearOf book n t place distance out .nearest < k) many
-        (rw nearest-told (nearest-below (drivesOf book t place) (rw many (sound .counts .crane))))
+        subst (λ (k : ℕ). answer .nearest < k) many
+        (rw nearest-told (nearest-below drives (rw many (sound .counts .crane))))
 
-    pub nearest-before : (s : ℕ) → s < book .cranes → (nearOf book n t place distance out .nearest ≡ s → ⊥)
-        → Before (nearOf book n t place distance out .nearest) s
+    pub nearest-before : (s : ℕ) → s < book .cranes → (answer .nearest ≡ s → ⊥)
+        → Before (answer .nearest) s
     nearest-before s lt ne =
-        before _ _ nearest-crane lt (rw nearest-told (nearest-first (drivesOf book t place) s (rw many lt) (rw nearest-told at ne)))
+        before _ _ nearest-crane lt (rw nearest-told (nearest-first drives s (rw many lt) (rw nearest-told at ne)))
 
     -- no crane is nearer
-    pub nearest-least : (s : ℕ) → s < book .cranes → metres (nearOf book n t place distance out .nearest) ≤ metres s
-    nearest-least s lt = go (ℕ-discrete (nearOf book n t place distance out .nearest) s)
+    pub nearest-least : (s : ℕ) → s < book .cranes → metres (answer .nearest) ≤ metres s
+    nearest-least s lt = go (ℕ-discrete (answer .nearest) s)
       where
-        go : Dec (nearOf book n t place distance out .nearest ≡ s) → metres (nearOf book n t place distance out .nearest) ≤ metres s
+        go : Dec (answer .nearest ≡ s) → metres (answer .nearest) ≤ metres s
         go (yes e) = le-of-eq (ap metres e)
         go (no ne) = ⊎-elim le-of-lt (λ both. le-of-eq (both .0)) (nearest-before s lt ne)
 
     -- it heads the list, where a crane is listed
-    pub nearest-listed : 0 < length told → getD told 0 0 ≡ nearOf book n t place distance out .nearest
-    nearest-listed some = rw (list, nearest-told) (nearest-heads (drivesOf book t place) distance (rw list at some))
+    pub nearest-listed : 0 < length told → getD told 0 0 ≡ answer .nearest
+    nearest-listed some = rw (listed, nearest-told) (nearest-heads drives distance (rw listed at some))
 
 -- entries past the counts are ignored
 pub same-near : (a b : Book) (n : ℕ) (t : Table) (place distance : ℕ) (out : List ℕ) → SameBook a b
     → nearOf a n t place distance out ≡ nearOf b n t place distance out
-unfolding nearOf
+unfolding nearOf nearAfter
 same-near a b n t place distance out books = rw (past-counts-ignored a b n t books, books .stands)
 
 -- ---- the places that hold a crane
@@ -164,34 +182,33 @@ stand-held book s lt = contains-yes (entry-in (standsOf book) s lt)
 pub held-stand : (book : Book) (p : ℕ) → holdsCrane book p ≡ true → (s : ℕ) × (s < length (standsOf book)) × (getD (standsOf book) s 0 ≡ p)
 held-stand book p h = slot-of (contains-in p (standsOf book) h)
 
-module _ (book : Book) (n : ℕ) (t : Table) where
-  module _ (accepted : occupancyOf book n t .number ≡ 0) where
-    tested : bookRefusal book n t ≡ 0
-    unfolding occupancyOf
-    tested = accepted-values {A = HeldPlaces} (bookRefusal book n t) _ (λ m. record { number = m; held = 0; free = 0 }) (λ r. r .number) (λ m. refl) accepted
+module _ (book : Book) (n : ℕ) (t : Table) (accepted : occupancyOf book n t .number ≡ 0) where
+  tested : bookRefusal book n t ≡ 0
+  unfolding occupancyOf
+  tested = accepted-values {A = HeldPlaces} (bookRefusal book n t) _ (λ m. record { number = m; held = 0; free = 0 }) (λ r. r .number) (λ m. refl) accepted
 
-    freed : occupancyOf book n t .free ≡ first n (λ p. not (holdsCrane book p))
-    unfolding occupancyOf
-    freed = rw tested
+  freed : occupancyOf book n t .free ≡ first n (λ p. not (holdsCrane book p))
+  unfolding occupancyOf
+  freed = rw tested
 
-    -- "how many different places hold a crane": no more than cranes
-    pub held-most : BookArrays book → occupancyOf book n t .held ≤ book .cranes
-    unfolding occupancyOf
-    held-most arrays =
-        subst (λ (k : ℕ). occupancyOf book n t .held ≤ k) (sym (as-many-stands arrays (book-sound tested))) (rw tested (places-most n (standsOf book)))
+  -- "how many different places hold a crane": no more than cranes
+  pub held-most : BookArrays book → occupancyOf book n t .held ≤ book .cranes
+  unfolding occupancyOf
+  held-most arrays =
+      subst (λ (k : ℕ). occupancyOf book n t .held ≤ k) (sym (as-many-stands arrays (book-sound tested))) (rw tested (places-most n (standsOf book)))
 
-    -- "the lowest place that holds none, or the number of places if all do"
-    pub free-most : occupancyOf book n t .free ≤ n
-    free-most = rw freed (first-most n (λ p. not (holdsCrane book p)))
+  -- "the lowest place that holds none, or the number of places if all do"
+  pub free-most : occupancyOf book n t .free ≤ n
+  free-most = rw freed (first-most n (λ p. not (holdsCrane book p)))
 
-    pub free-empty : occupancyOf book n t .free < n → holdsCrane book (occupancyOf book n t .free) ≡ false
-    free-empty lt = rw freed (not-true _ (first-passes n (λ p. not (holdsCrane book p)) (rw freed at lt)))
+  pub free-empty : occupancyOf book n t .free < n → holdsCrane book (occupancyOf book n t .free) ≡ false
+  free-empty lt = rw freed (not-true _ (first-passes n (λ p. not (holdsCrane book p)) (rw freed at lt)))
 
-    pub free-lowest : (p : ℕ) → p < occupancyOf book n t .free → holdsCrane book p ≡ true
-    free-lowest p lt = not-false _ (first-lowest n (λ p. not (holdsCrane book p)) p (rw freed at lt))
+  pub free-lowest : (p : ℕ) → p < occupancyOf book n t .free → holdsCrane book p ≡ true
+  free-lowest p lt = not-false _ (first-lowest n (λ p. not (holdsCrane book p)) p (rw freed at lt))
 
-    pub all-held : ((p : ℕ) → p < n → holdsCrane book p ≡ true) → occupancyOf book n t .free ≡ n
-    all-held all = freed ∙ first-none n (λ p. not (holdsCrane book p)) (λ p lt. rw (all p lt))
+  pub all-held : ((p : ℕ) → p < n → holdsCrane book p ≡ true) → occupancyOf book n t .free ≡ n
+  all-held all = freed ∙ first-none n (λ p. not (holdsCrane book p)) (λ p lt. rw (all p lt))
 
 -- entries past the counts are ignored
 pub same-occupancy : (a b : Book) (n : ℕ) (t : Table) → SameBook a b → occupancyOf a n t ≡ occupancyOf b n t
