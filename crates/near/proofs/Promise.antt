@@ -76,12 +76,15 @@ module _ (book : Book) (n : ℕ) (t : Table) (place distance : ℕ) (out : List 
       let zero = zeros-told _ (nearest drives) (λ m. 0) h in
       rw (← zero, refused, numbers)
 
+  drives-long : BookArrays book → Sound book n t → length drives ≡ book .cranes
+  drives-long arrays sound = length-upTo (length (standsOf book)) metres ∙ sym (as-many-stands arrays sound)
+
   -- a buffer for all cranes is never short
   pub near-fits : BookArrays book → nearRefusal book n t place ≡ 0 → book .cranes ≤ length out → answer .list .number ≡ 0
   unfolding nearOf nearAfter
   near-fits arrays tests room =
       let few = within-few drives distance in
-      let many = length-upTo (length (standsOf book)) metres ∙ sym (as-many-stands arrays (near-sound book n t place tests)) in
+      let many = drives-long arrays (near-sound book n t place tests) in
       output-number (nearRefusal book n t place) _ out ∙ rw (tests, le-leb (length list) (length out) (omega arith))
 
   module _ (accepted : answer .list .number ≡ 0) (arrays : BookArrays book) where
@@ -97,7 +100,7 @@ module _ (book : Book) (n : ℕ) (t : Table) (place distance : ℕ) (out : List 
     listed = output-bytes (nearRefusal book n t place) _ out accepted
 
     many : length drives ≡ book .cranes
-    many = length-upTo (length (standsOf book)) metres ∙ sym (as-many-stands arrays sound)
+    many = drives-long arrays sound
 
     driven : (s : ℕ) → s < book .cranes → getD drives s 0 ≡ metres s
     driven s lt = getD-upTo (length (standsOf book)) metres s 0 (rw (← as-many-stands arrays sound) lt)

@@ -3,14 +3,13 @@
 mod mask;
 mod metres;
 mod order;
+mod place;
 
 use base::Refusal;
 use base::Verdict;
 use book::Book;
-use dayfile::Day;
 ghost use mathlib.Core.Path.{_≡_};
-ghost use Rattle.base.specs.Numbers.{numberOf};
-ghost use Rattle.near.specs.Near.{nearRefusal, nearby, nearOf};
+ghost use Rattle.near.specs.Near.{nearby, nearOf};
 ghost use Rattle.near.specs.Occupancy.{heldPlaces, occupancyOf};
 
 // How many cranes are within a distance, whose numbers stand at the front of the lent buffer, and the nearest of all cranes; or the
@@ -28,18 +27,6 @@ pub struct Occupied {
     pub free: usize,
 }
 
-// The test of the book, then 5 for the place.
-fn test(book: Book, places: usize, table: &[u32], place: u16) -> Verdict
-    ensures { λ r. ⌜ numberOf r ≡ nearRefusal book places (now (table .entry)) place ⌝ }
-{
-    let tested = book.test(places, table);
-    let Verdict::Accepted = tested else {
-        return tested;
-    };
-    let asked = [place];
-    Day::test_stops(places, &asked[..])
-}
-
 // The cranes whose stands are at most so many metres from a place, by metres and then by number, into the front of a lent buffer, and
 // the first in that order of all cranes; the test of the book, then 5 for the place, then 11 where the buffer is shorter than the list.
 pub fn near(
@@ -52,7 +39,7 @@ pub fn near(
 ) -> Nearby
     ensures { λ r. ⌜ nearby r (now (out .exit)) ≡ nearOf book places (now (table .entry)) place distance (now (out .entry)) ⌝ }
 {
-    let verdict = test(book, places, table, place);
+    let verdict = place::test(book, places, table, place);
     let Verdict::Accepted = verdict else {
         return Nearby {
             verdict,

@@ -1,9 +1,9 @@
--- `near::test` meets its contract: a refusal of the book is handed up, else the place is tested.
+-- `near::place::test` meets its contract: a refusal of the book is handed up, else the place is tested.
 -- Assumes nothing.
 use Rattle.base.proofs.Numbers.{goes-on, handed-up}
 use borrow.Author.Needs.{needs}
-use Rattle.near.proofs.test.Statement.{statement}
-use Rattle.near.proofs.test.Tie as tie
+use Rattle.near.proofs.place.test.Statement.{statement}
+use Rattle.near.proofs.place.test.Tie as tie
 
 test-requires : tie.Need-test-requires
 test-requires c κs = search needs
