@@ -1,11 +1,11 @@
 -- The laws of the tests, by which branches show a number within its limits, and loops what holds below a bound.
 -- Assumes nothing.
 use Prim.Native.Nat.{ℕ, zero, suc, _+_, _<_, _≤_, zero-le, suc-le-suc}
-use mathlib.Core.Bool.{Bool, true, false, _&&_, and-eq-true-iff, and-false}
-use mathlib.Core.Logic.{⊎-elim}
-use mathlib.Core.Path.{_≡_, refl, sym, subst, ap₂}
-use borrow.Author.Tests.{le-leb, lt-leb, leb-true}
-use lib.Dec.{leb}
+use mathlib.Core.Bool.{Bool, true, false, _&&_, _||_, and-eq-true-iff, and-false, or-false, false≢true}
+use mathlib.Core.Logic.{_⊎_, inl, inr, ⊎-elim}
+use mathlib.Core.Path.{_≡_, refl, sym, subst, ap₂, _∙_}
+use borrow.Author.Tests.{le-leb, lt-leb, leb-true, lt-ltb, le-ltb, eq-eqb, ne-eqb}
+use lib.Dec.{leb, ltb, eqb}
 use native.Mathlib.Decide.{ℕ-discrete, decLt}
 use native.Mathlib.Nat.{not-suc-le-zero, eq-or-lt-of-le, le-of-suc-le-suc, le-antisymm, le-of-lt, le-refl}
 use native.Mathlib.Numerals.{add-one}
@@ -28,6 +28,26 @@ one-more P i last below t lt = pick (ℕ-discrete t i)
     pick : Dec (t ≡ i) → P t
     pick (yes e) = subst P (sym e) last
     pick (no n) = below t (omega arith)
+
+-- a first key decides where two differ by it, and the rest among equals
+module _ (a b : ℕ) (rest : Bool) where
+  abbrev below : Bool
+  below = ltb a b || (eqb a b && rest)
+
+  pub key-lower : a < b → below ≡ true
+  key-lower h = rw (lt-ltb a b h)
+
+  pub key-tied : a ≡ b → below ≡ rest
+  key-tied e = rw (le-ltb a b (omega arith), eq-eqb a b e)
+
+  pub key-untied : (a ≡ b → ⊥) → below ≡ ltb a b
+  key-untied n = rw (ne-eqb a b n) (or-false (ltb a b))
+
+  pub key-higher : b < a → below ≡ false
+  key-higher h = key-untied (λ e. omega arith) ∙ le-ltb a b (omega arith)
+
+  pub key-told : below ≡ true → (a < b) ⊎ ((a ≡ b) × (rest ≡ true))
+  key-told h = by-order a b inl (λ e. inr (e, sym (key-tied e) ∙ h)) (λ l. absurd (false≢true (sym (key-higher l) ∙ h)))
 
 module _ (lo hi n : ℕ) where
   pub within-yes : lo ≤ n → n ≤ hi → within lo hi n ≡ true

@@ -3,7 +3,7 @@
 ghost use mathlib.Core.Path.{_≡_};
 ghost use Rattle.base.specs.Numbers.{numberOf, _then_};
 
-// One case for each row of document 01's refusal table, 1 to 11, for 12 of paper 3 and for 13 of paper 5.
+// One case for each row of document 01's refusal table, 1 to 11, for 12 of paper 3, 13 of paper 5 and 14 of paper 10.
 pub enum Refusal {
     // The length of a file.
     Length,
@@ -31,6 +31,8 @@ pub enum Refusal {
     Crane,
     // The metres of a crane.
     Driven,
+    // A date that its calendar does not have, or an edge of a window that no year has.
+    Date,
 }
 
 // The answer of a test: accepted, or the first refusal that applies.
@@ -72,5 +74,6 @@ pub fn number(v: Verdict) -> u8
         Refusal::Buffer => 11,
         Refusal::Crane => 12,
         Refusal::Driven => 13,
+        Refusal::Date => 14,
     }
 }

@@ -6,11 +6,11 @@ use mathlib.Core.List.{List, [], _∷_}
 use mathlib.Core.Logic.{⊎-elim}
 use mathlib.Core.Path.{_≡_, sym, _∙_}
 use borrow.Author.Needs.{needs}
-use borrow.Author.Tests.{ltb-true, ltb-false, lt-ltb, le-ltb, eq-eqb, ne-eqb}
+use borrow.Author.Tests.{ltb-true, ltb-false}
 use lib.Dec.{ltb, eqb}
 use native.Mathlib.Nat.{le-antisymm}
 use native.Mathlib.Omega.{arith}
-use Rattle.base.proofs.Tests.{by-order}
+use Rattle.base.proofs.Tests.{by-order, key-lower, key-tied, key-higher}
 use Rattle.workfunction.specs.Choice.{preferred}
 use Rattle.workfunction.proofs.Keys.{NoLater, no-later-by-number, no-later-by, preferred-below, preferred-stays, preferred-gives-way}
 use Rattle.dispatch.specs.Legs.{legAt}
@@ -26,13 +26,13 @@ module _ (a w l s : ℕ) where
   test-true : test ≡ true → (a ≤ l) × (a ≡ l → w < s)
   test-true h = by-order a l
       (λ lower. (omega arith, λ e. absurd (omega arith)))
-      (λ same. (omega arith, λ e. ltb-true w s (rw (le-ltb a l (omega arith), eq-eqb a l same) at h)))
-      (λ higher. absurd (false≢true (rw (le-ltb a l (omega arith), ne-eqb a l (λ e. omega arith)) at h)))
+      (λ same. (omega arith, λ e. ltb-true w s (sym (key-tied a l (ltb w s) same) ∙ h)))
+      (λ higher. absurd (false≢true (sym (key-higher a l (ltb w s) higher) ∙ h)))
 
   test-false : test ≡ false → (l ≤ a) × (a ≡ l → s ≤ w)
   test-false h = by-order a l
-      (λ lower. absurd (false≢true (sym (rw (lt-ltb a l lower) at h))))
-      (λ same. (omega arith, λ e. ltb-false w s (rw (le-ltb a l (omega arith), eq-eqb a l same) at h)))
+      (λ lower. absurd (false≢true (sym h ∙ key-lower a l (ltb w s) lower)))
+      (λ same. (omega arith, λ e. ltb-false w s (sym (key-tied a l (ltb w s) same) ∙ h)))
       (λ higher. (omega arith, λ e. absurd (omega arith)))
 
 module _ (net way : ℕ → ℕ) (k : ℕ) where

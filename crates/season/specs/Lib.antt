@@ -1,0 +1,3 @@
+pub mod Calendar
+pub mod Windows
+pub mod Season
