@@ -1,6 +1,6 @@
 -- What is promised of the table of a date, for every number of places, two tables, window and date.
 -- Assumes nothing.
-use Prim.Native.Nat.{ℕ, suc, _%_}
+use Prim.Native.Nat.{ℕ, suc, _+_, _%_, _≤_}
 use mathlib.Core.Bool.{Bool, true, false, _&&_, _||_, cond, false≢true, and-eq-true-iff}
 use mathlib.Core.List.{[]}
 use mathlib.Core.Logic.{_⊎_, inl, inr, ⊎-elim, _↔_}
@@ -9,11 +9,12 @@ use base.Fml.{GName}
 use borrow.Author.Tests.{eqb-true, eq-eqb}
 use lib.ListN.{length, drop-of-length-le}
 use native.Mathlib.Decide.{ℕ-discrete}
-use native.Mathlib.Nat.{le-of-eq}
+use native.Mathlib.Nat.{le-of-eq, le-of-lt}
 use native.Mathlib.Omega.{arith}
 use Rattle.base.specs.Numbers.{unless, _then_}
 use Rattle.base.specs.Tests.{within}
 use Rattle.base.proofs.Numbers.{then-assoc, then-zero, zeros-told}
+use Rattle.base.proofs.Tests.{by-order, within-least, within-most}
 use Rattle.road.specs.Table.{legCount, runRefusal, legsRefusal, triangleRefusal, tableRefusal}
 use Rattle.road.proofs.Table.{run-accepted}
 use Rattle.season.specs.declared.MonthDay.{MonthDay}
@@ -22,7 +23,7 @@ use Rattle.season.specs.declared.Date.{Date}
 use Rattle.season.specs.Calendar.{firstYear, lastYear, leapYear, monthDays, realDay, dayOf, dateRule, calendarRefusal}
 use Rattle.season.specs.Windows.{noLater, insideOf, Earlier}
 use Rattle.season.specs.Season.{Lent, tablesRefusal, seasonRefusal, emptyPart, legsOn}
-use Rattle.season.proofs.calendar.Laws.{common-fourth, leap-fourth, leap-hundredth, real-longest}
+use Rattle.season.proofs.calendar.Laws.{common-fourth, leap-fourth, leap-hundredth, no-month-zero, no-month, real-longest}
 use Rattle.season.proofs.windows.Laws.{later-told, later-holds, no-later-told, no-later-holds, no-later-self, no-later-both, inside-between, inside-over}
 
 -- ---- which days a window holds
@@ -109,6 +110,15 @@ leap-rule y = (told, held)
         ⊎-elim (leap-fourth y (h .0))
         (λ (q : y % 400 ≡ 0). leap-hundredth y (h .0) (omega arith) ∙ eq-eqb (y % 400) 0 q) (h .1)
 
+-- years with the same remainders are alike
+leap-same : (y z : ℕ) → y % 4 ≡ z % 4 → y % 100 ≡ z % 100 → y % 400 ≡ z % 400 → leapYear y ≡ leapYear z
+unfolding leapYear
+leap-same y z a b c = rw (a, b, c)
+
+-- the rule comes round in 400 years
+pub leap-cycle : (y : ℕ) → leapYear (y + 400) ≡ leapYear y
+leap-cycle y = leap-same (y + 400) y (omega arith) (omega arith) (omega arith)
+
 -- 29 February is a date of the leap years among those that count, and of no other year
 pub leap-day : (y : ℕ) → dateRule (record { year = y; month = 2; day = 29 }) ≡ (within firstYear lastYear y && leapYear y)
 unfolding dateRule realDay monthDays within
@@ -117,6 +127,16 @@ leap-day y = ap (λ (real : Bool). within firstYear lastYear y && real) (twenty-
     twenty-ninth : (leap : Bool) → realDay leap (record { month = 2; day = 29 }) ≡ leap
     twenty-ninth true = refl
     twenty-ninth false = refl
+
+-- the month of a real day is one of twelve
+pub real-month : (leap : Bool) (at : MonthDay) → realDay leap at ≡ true → (1 ≤ at .month) × (at .month ≤ 12)
+unfolding realDay
+real-month leap at h =
+    (by-order 1 (at .month) le-of-lt le-of-eq (λ l. absurd (none (no-month-zero leap (at .month) l))),
+    by-order (at .month) 12 le-of-lt le-of-eq (λ l. absurd (none (no-month leap (at .month) l))))
+  where
+    none : monthDays leap (at .month) ≡ 0 → ⊥
+    none e = let low = within-least 1 _ (at .day) h in let high = within-most 1 (monthDays leap (at .month)) (at .day) h in omega arith
 
 -- "an edge being real if a leap year has it"
 pub edge-real : (date : Date) → within firstYear lastYear (date .year) ≡ true → leapYear (date .year) ≡ true

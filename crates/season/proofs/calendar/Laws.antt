@@ -1,14 +1,14 @@
 -- The calendar: what each branch tells of a leap year, and of the days of a month. Assumes nothing.
-use Prim.Native.Nat.{ℕ, zero, suc, _+_, _%_, _<_, _≤_}
+use Prim.Native.Nat.{ℕ, zero, suc, _%_, _<_, _≤_}
 use mathlib.Core.Bool.{Bool, true, false, cond}
 use mathlib.Core.Path.{_≡_, refl, sym, _∙_}
 use borrow.Author.Tests.{eq-eqb, ne-eqb}
 use lib.Dec.{eqb}
 use lib.ListN.{List·getD-eq-default}
 use native.Mathlib.Decide.{ℕ-discrete}
-use native.Mathlib.Nat.{le-of-eq, le-of-lt, le-trans}
+use native.Mathlib.Nat.{le-of-eq, le-trans}
 use native.Mathlib.Omega.{arith}
-use Rattle.base.proofs.Tests.{by-order, within-yes, within-least, within-most}
+use Rattle.base.proofs.Tests.{within-yes, within-least, within-most}
 use Rattle.season.specs.declared.MonthDay.{MonthDay}
 use Rattle.season.specs.Calendar.{leapYear, months, monthDays, realDay}
 
@@ -37,7 +37,7 @@ no-february leap (suc zero) n = refl
 no-february leap (suc (suc zero)) n = absurd (n refl)
 no-february leap (suc (suc (suc m))) n = refl
 
-no-month-zero : (leap : Bool) (m : ℕ) → m < 1 → monthDays leap m ≡ 0
+pub no-month-zero : (leap : Bool) (m : ℕ) → m < 1 → monthDays leap m ≡ 0
 unfolding monthDays
 no-month-zero leap m h = let e : m ≡ 0 = omega arith in rw e
 
@@ -63,20 +63,3 @@ unfolding realDay
 real-longest leap at h =
     let days = monthDays leap (at .month) in
     within-yes 1 _ (at .day) (within-least 1 days (at .day) h) (le-trans (within-most 1 days (at .day) h) (month-longest leap (at .month)))
-
--- the month of a real day is one of twelve
-pub real-month : (leap : Bool) (at : MonthDay) → realDay leap at ≡ true → (1 ≤ at .month) × (at .month ≤ 12)
-unfolding realDay
-real-month leap at h =
-    (by-order 1 (at .month) le-of-lt le-of-eq (λ l. absurd (none (no-month-zero leap (at .month) l))),
-    by-order (at .month) 12 le-of-lt le-of-eq (λ l. absurd (none (no-month leap (at .month) l))))
-  where
-    none : monthDays leap (at .month) ≡ 0 → ⊥
-    none e = let low = within-least 1 _ (at .day) h in let high = within-most 1 (monthDays leap (at .month)) (at .day) h in omega arith
-
-leap-same : (y z : ℕ) → y % 4 ≡ z % 4 → y % 100 ≡ z % 100 → y % 400 ≡ z % 400 → leapYear y ≡ leapYear z
-unfolding leapYear
-leap-same y z a b c = rw (a, b, c)
-
-pub leap-cycle : (y : ℕ) → leapYear (y + 400) ≡ leapYear y
-leap-cycle y = leap-same (y + 400) y (omega arith) (omega arith) (omega arith)
