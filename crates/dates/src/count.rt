@@ -7,7 +7,9 @@ use season::Window;
 
 // 28 February 1582, 1 March 1582 and 1 March 10000, counted from 1 March of the year 0.
 const BEFORE: u64 = 577_812;
+
 const FIRST: u64 = 577_813;
+
 const LAST: u64 = 3_652_425;
 
 // The date of a day by its number, 1 March of the year 0 having 0.
@@ -109,10 +111,14 @@ fn days() -> u64 {
 }
 
 pub(crate) fn each() {
-    line::begin(b"days from 1 March 1582 to 29 February 10000; told by the right number; later than the day before");
+    line::begin(
+        b"days from 1 March 1582 to 29 February 10000; told by the right number; later than the day before",
+    );
     counted();
     line::end();
-    line::begin(b"dates accepted, of the years 1500 to 10099, months 0 to 15, days 0 to 63; days of 1583 to 9999 by the count");
+    line::begin(
+        b"dates accepted, of the years 1500 to 10099, months 0 to 15, days 0 to 63; days of 1583 to 9999 by the count",
+    );
     line::number(accepted());
     line::number(days());
     line::end();

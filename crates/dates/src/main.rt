@@ -7,11 +7,28 @@ mod named;
 mod served;
 mod year;
 
-fn main() {
-    named::dates();
+// Dates, edges and windows by name.
+fn days() {
+    named::leap_years();
+    named::no_dates();
+    named::years();
     named::edges();
-    named::windows();
-    named::order();
+    named::over();
+    named::leap();
+    named::leap_alone();
+}
+
+// The order of the tests, and how many legs come back.
+fn tests() {
+    named::places();
+    named::date_first();
+    named::ordinary_first();
+    named::thaw_last();
+}
+
+fn main() {
+    days();
+    tests();
     served::days(&[10, 20, 15], &[12, 22, 18]);
     count::each();
     year::windows();

@@ -24,22 +24,21 @@ fn spring() -> Window {
 
 // The number of a date, over one place.
 fn tested(day: u8, month: u8, year: u16) {
-    line::verdict(season::test(
-        1,
-        &[],
-        &[],
-        spring(),
-        date(day, month, year),
-    ));
+    line::verdict(season::test(1, &[], &[], spring(), date(day, month, year)));
 }
 
-pub(crate) fn dates() {
+// Leap years.
+pub(crate) fn leap_years() {
     line::begin(b"29 February of 2024, 2023, 1900 and 2000");
     tested(29, 2, 2_024);
     tested(29, 2, 2_023);
     tested(29, 2, 1_900);
     tested(29, 2, 2_000);
     line::end();
+}
+
+// Days and months that are not.
+pub(crate) fn no_dates() {
     line::begin(b"31 April; day 0; months 0 and 13; the highest numbers");
     tested(31, 4, 2_024);
     tested(0, 4, 2_024);
@@ -47,6 +46,10 @@ pub(crate) fn dates() {
     tested(1, 13, 2_024);
     tested(255, 255, 65_535);
     line::end();
+}
+
+// The years that count.
+pub(crate) fn years() {
     line::begin(b"31 December of 1582, 1 January of 1583; 31 December of 9999, 1 January of 10000");
     tested(31, 12, 1_582);
     tested(1, 1, 1_583);
@@ -70,7 +73,9 @@ fn edge(day: u8, month: u8) {
 }
 
 pub(crate) fn edges() {
-    line::begin(b"edges, as the first and as the last: 29 February, 30 February, 31 April, day 0, months 0 and 13");
+    line::begin(
+        b"edges, as the first and as the last: 29 February, 30 February, 31 April, day 0, months 0 and 13",
+    );
     edge(29, 2);
     edge(30, 2);
     edge(31, 4);
@@ -89,33 +94,58 @@ pub(crate) fn leg(window: Window, date: Date) -> u32 {
     legs[0]
 }
 
-// Prints the leg on a date.
-fn held(first: MonthDay, last: MonthDay, date: Date) {
-    line::number(leg(Window { first, last }, date) as u64);
+// Prints the leg on a date, the window being that of 20 December to 10 January.
+fn midwinter(day: u8, month: u8, year: u16) {
+    let window = Window {
+        first: on(20, 12),
+        last: on(10, 1),
+    };
+    line::number(leg(window, date(day, month, year)) as u64);
 }
 
-pub(crate) fn windows() {
+// The same of the window from 29 February to a day.
+fn leap_day(last: MonthDay, day: u8, month: u8, year: u16) {
+    let window = Window {
+        first: on(29, 2),
+        last,
+    };
+    line::number(leg(window, date(day, month, year)) as u64);
+}
+
+// A window over the year's end.
+pub(crate) fn over() {
     line::begin(b"20 December to 10 January: 19, 20 and 31 December, 1, 10 and 11 January");
-    held(on(20, 12), on(10, 1), date(19, 12, 2_025));
-    held(on(20, 12), on(10, 1), date(20, 12, 2_025));
-    held(on(20, 12), on(10, 1), date(31, 12, 2_025));
-    held(on(20, 12), on(10, 1), date(1, 1, 2_026));
-    held(on(20, 12), on(10, 1), date(10, 1, 2_026));
-    held(on(20, 12), on(10, 1), date(11, 1, 2_026));
+    midwinter(19, 12, 2_025);
+    midwinter(20, 12, 2_025);
+    midwinter(31, 12, 2_025);
+    midwinter(1, 1, 2_026);
+    midwinter(10, 1, 2_026);
+    midwinter(11, 1, 2_026);
     line::end();
+}
+
+// Windows with 29 February as an edge.
+pub(crate) fn leap() {
+    let march = on(1, 3);
     line::begin(b"29 February to 1 March: 28 February, 1 and 2 March of 2023; 29 February of 2024");
-    held(on(29, 2), on(1, 3), date(28, 2, 2_023));
-    held(on(29, 2), on(1, 3), date(1, 3, 2_023));
-    held(on(29, 2), on(1, 3), date(2, 3, 2_023));
-    held(on(29, 2), on(1, 3), date(29, 2, 2_024));
+    leap_day(march, 28, 2, 2_023);
+    leap_day(march, 1, 3, 2_023);
+    leap_day(march, 2, 3, 2_023);
+    leap_day(march, 29, 2, 2_024);
     line::end();
-    line::begin(b"29 February alone: 28 February and 1 March of 2023; 28 and 29 February and 1 March of 2024; 29 February of 2023");
-    held(on(29, 2), on(29, 2), date(28, 2, 2_023));
-    held(on(29, 2), on(29, 2), date(1, 3, 2_023));
-    held(on(29, 2), on(29, 2), date(28, 2, 2_024));
-    held(on(29, 2), on(29, 2), date(29, 2, 2_024));
-    held(on(29, 2), on(29, 2), date(1, 3, 2_024));
-    held(on(29, 2), on(29, 2), date(29, 2, 2_023));
+}
+
+pub(crate) fn leap_alone() {
+    let same = on(29, 2);
+    line::begin(
+        b"29 February alone: 28 February and 1 March of 2023; 28 and 29 February and 1 March of 2024; 29 February of 2023",
+    );
+    leap_day(same, 28, 2, 2_023);
+    leap_day(same, 1, 3, 2_023);
+    leap_day(same, 28, 2, 2_024);
+    leap_day(same, 29, 2, 2_024);
+    leap_day(same, 1, 3, 2_024);
+    leap_day(same, 29, 2, 2_023);
     line::end();
 }
 
@@ -127,23 +157,33 @@ fn tables<'a>(places: usize, ordinary: &'a [u32], thaw: &'a [u32], day: u8) {
     line::number(legs.len() as u64);
 }
 
-pub(crate) fn order() {
+// One place has no legs, accepted or not.
+pub(crate) fn places() {
     line::begin(b"one place, on 1 April and on 31 April; three places");
     tables(1, &[], &[], 1);
     tables(1, &[], &[], 31);
     tables(3, &[10, 20, 15], &[12, 22, 18], 1);
     line::end();
+}
+
+pub(crate) fn date_first() {
     line::begin(b"14 before 3, 4 and 8");
     tables(0, &[], &[], 31);
     tables(3, &[10, 20], &[12, 22], 31);
     tables(3, &[10, 1_000_001, 15], &[12, 22, 18], 31);
     tables(3, &[10, 26, 15], &[12, 22, 18], 31);
     line::end();
+}
+
+pub(crate) fn ordinary_first() {
     line::begin(b"the ordinary table's 3, 4 and 8 before the thaw table's 8, 3 and 3");
     tables(3, &[10, 20], &[12, 36, 18], 1);
     tables(3, &[10, 1_000_001, 15], &[12, 22], 1);
     tables(3, &[10, 26, 15], &[12, 22], 1);
     line::end();
+}
+
+pub(crate) fn thaw_last() {
     line::begin(b"the thaw table's 3, shorter and longer, 4 and 8");
     tables(3, &[10, 20, 15], &[12, 22], 1);
     tables(3, &[10, 20, 15], &[12, 22, 18, 0], 1);

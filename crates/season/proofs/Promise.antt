@@ -131,9 +131,10 @@ leap-day y = ap (λ (real : Bool). within firstYear lastYear y && real) (twenty-
 -- the month of a real day is one of twelve
 pub real-month : (leap : Bool) (at : MonthDay) → realDay leap at ≡ true → (1 ≤ at .month) × (at .month ≤ 12)
 unfolding realDay
-real-month leap at h =
-    (by-order 1 (at .month) le-of-lt le-of-eq (λ l. absurd (none (no-month-zero leap (at .month) l))),
-    by-order (at .month) 12 le-of-lt le-of-eq (λ l. absurd (none (no-month leap (at .month) l))))
+real-month leap at h = (
+  by-order 1 (at .month) le-of-lt le-of-eq (λ l. absurd (none (no-month-zero leap (at .month) l))),
+  by-order (at .month) 12 le-of-lt le-of-eq (λ l. absurd (none (no-month leap (at .month) l))),
+)
   where
     none : monthDays leap (at .month) ≡ 0 → ⊥
     none e = let low = within-least 1 _ (at .day) h in let high = within-most 1 (monthDays leap (at .month)) (at .day) h in omega arith
@@ -167,9 +168,9 @@ module _ (n : ℕ) (ordinary thaw : Lent) (window : Window) (date : Date) where
 
   -- the tests one by one: 14 for the date, then for each edge; 3, 4 and 8 for the ordinary table; 3, 4 and 8 for the thaw table
   pub season-number : refusal ≡
-      ( unless (dateRule date) 14 then unless (realDay true (window .first)) 14 then unless (realDay true (window .last)) 14
+      (unless (dateRule date) 14 then unless (realDay true (window .first)) 14 then unless (realDay true (window .last)) 14
       then runRefusal n (length (ordinary .now)) then legsRefusal (ordinary .now) then triangleRefusal n (ordinary .now)
-      then runRefusal n (length (thaw .now)) then legsRefusal (thaw .now) then triangleRefusal n (thaw .now) )
+      then runRefusal n (length (thaw .now)) then legsRefusal (thaw .now) then triangleRefusal n (thaw .now))
   season-number =
       let tables : ℕ = tablesRefusal n (ordinary .now) (thaw .now) in
       let first = realDay true (window .first) in

@@ -40,13 +40,7 @@ impl Date {
 
 // The test of what the legs of a date are chosen from: 14 for the date and the window's edges, then 3, 4 and 8 for the ordinary table, then
 // for the thaw table. It alone tells a refusal from a table of one place, which has no legs.
-pub fn test(
-    places: usize,
-    ordinary: &[u32],
-    thaw: &[u32],
-    window: Window,
-    date: Date,
-) -> Verdict
+pub fn test(places: usize, ordinary: &[u32], thaw: &[u32], window: Window, date: Date) -> Verdict
     ensures { λ r. ⌜ numberOf r ≡ seasonRefusal places (now (ordinary .entry)) (now (thaw .entry)) window date ⌝ }
 {
     let dated = calendar::test(window, date);
