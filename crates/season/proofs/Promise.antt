@@ -185,15 +185,18 @@ module _ (n : ℕ) (ordinary thaw : Lent) (window : Window) (date : Date) where
     abbrev answer : Lent
     answer = legsOn n ordinary thaw window date name
 
-    -- "Inside the window the thaw table is the day's": the lent reference itself
-    pub legs-thaw : refusal ≡ 0 → insideOf window (dayOf date) ≡ true → answer ≡ thaw
+    -- "as that part itself": the one lent reference or the other
+    pub legs-chosen : refusal ≡ 0 → answer ≡ cond (insideOf window (dayOf date)) thaw ordinary
     unfolding legsOn
-    legs-thaw e inside = rw (e, inside)
+    legs-chosen e = rw e
+
+    -- "Inside the window the thaw table is the day's"
+    pub legs-thaw : refusal ≡ 0 → insideOf window (dayOf date) ≡ true → answer ≡ thaw
+    legs-thaw e inside = legs-chosen e ∙ rw inside
 
     -- "on every other date the ordinary"
     pub legs-ordinary : refusal ≡ 0 → insideOf window (dayOf date) ≡ false → answer ≡ ordinary
-    unfolding legsOn
-    legs-ordinary e outside = rw (e, outside)
+    legs-ordinary e outside = legs-chosen e ∙ rw outside
 
     -- "A refusal hands back an empty part": of the ordinary table
     pub legs-refused : (refusal ≡ 0 → ⊥) → answer ≡ emptyPart ordinary name

@@ -61,16 +61,15 @@ pub fn legs<'a>(
 ) -> &'a [u32]
     ensures { λ r. ⌜ r ≡ legsOn places (ordinary .entry) (thaw .entry) window date (r .name) ⌝ }
 {
+    let none = &ordinary[..0];
     let tested = test(places, ordinary, thaw, window, date);
     let Verdict::Accepted = tested else {
-        return &ordinary[..0];
+        return none;
     };
     let day = MonthDay {
         month: date.month,
         day: date.day,
     };
-    if windows::inside(window, day) {
-        return thaw;
-    }
-    ordinary
+    let inside = windows::inside(window, day);
+    tables::choose(inside, ordinary, thaw)
 }

@@ -1,6 +1,7 @@
-// The tests of the two lent tables.
+// The two lent tables: their tests, and the choice of one.
 use base::Verdict;
 use road::Road;
+ghost use mathlib.Core.Bool.{cond};
 ghost use mathlib.Core.Path.{_≡_};
 ghost use Rattle.base.specs.Numbers.{numberOf};
 ghost use Rattle.season.specs.Season.{tablesRefusal};
@@ -14,4 +15,14 @@ pub(crate) fn test(places: usize, ordinary: &[u32], thaw: &[u32]) -> Verdict
         return tested;
     };
     Road::test(places, thaw)
+}
+
+// The lent thaw table inside the window, else the lent ordinary one: that reference itself.
+pub(crate) fn choose<'a>(inside: bool, ordinary: &'a [u32], thaw: &'a [u32]) -> &'a [u32]
+    ensures { λ r. ⌜ r ≡ cond inside (thaw .entry) (ordinary .entry) ⌝ }
+{
+    if inside {
+        return thaw;
+    }
+    ordinary
 }
