@@ -31,7 +31,7 @@ pub enum Refusal {
     Crane,
     // The metres of a crane.
     Driven,
-    // A date that its calendar does not have, or an edge of a window that no year has.
+    // A date that is not real or not of the years that count; an edge of a window that no year has.
     Date,
 }
 
