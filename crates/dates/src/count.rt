@@ -5,28 +5,30 @@ use season::Date;
 use season::MonthDay;
 use season::Window;
 
-// 28 February 1582, 1 March 1582 and 1 March 10000, counted from 1 March of the year 0.
+// 28 February 1582, counted from 1 March of the year 0.
 const BEFORE: u64 = 577_812;
 
+// 1 March 1582.
 const FIRST: u64 = 577_813;
 
-const LAST: u64 = 3_652_425;
+// 1 March 10000, the day after the last.
+const END: u64 = 3_652_425;
 
-// The date of a day by its number, 1 March of the year 0 having 0.
+// The date of a day by its number, 1 March of the year 0 having 0: its cycle of four centuries, the years from March to March in it, the day in
+// the year, and the months from March on.
 pub(crate) fn date(serial: u64) -> Date {
-    let centuries = serial / 146_097;
+    let cycle = serial / 146_097;
     let rest = serial % 146_097;
     let years = (rest - rest / 1_460 + rest / 36_524 - rest / 146_096) / 365 % 400;
     let before = 365 * years + years / 4 - years / 100;
     let day = std::num::wrapping_sub_u64(rest, before) % 366;
-    let march = (5 * day + 2) / 153;
-    let within = std::num::wrapping_sub_u64(day, (153 * march + 2) / 5) % 31;
-    let next = march / 10;
-    let year = std::num::wrapping_add_u64(400 * (centuries % 100) + years, next);
+    let months = (5 * day + 2) / 153;
+    let rest_day = std::num::wrapping_sub_u64(day, (153 * months + 2) / 5) % 31;
+    let year = 400 * (cycle % 100) + years + months / 10;
     Date {
         year: (year % 65_536) as u16,
-        month: ((march + 2) % 12 + 1) as u8,
-        day: (within + 1) as u8,
+        month: ((months + 2) % 12 + 1) as u8,
+        day: (rest_day + 1) as u8,
     }
 }
 
@@ -61,7 +63,7 @@ fn counted() {
     let mut right = 0;
     let mut ascending = 0;
     let mut before = date(BEFORE);
-    for serial in FIRST..LAST {
+    for serial in FIRST..END {
         let at = date(serial);
         days = std::num::wrapping_add_u64(days, 1);
         right = std::num::wrapping_add_u64(right, (tested(at) == expected(at)) as u64);
@@ -104,7 +106,7 @@ fn accepted() -> u64 {
 // How many days the years 1583 to 9999 have by the count.
 fn days() -> u64 {
     let mut days = 0;
-    for serial in FIRST..LAST {
+    for serial in FIRST..END {
         days = std::num::wrapping_add_u64(days, (expected(date(serial)) == 0) as u64);
     }
     days

@@ -10,12 +10,12 @@ fn on(day: u8, month: u8) -> MonthDay {
 }
 
 // A date.
-fn date(day: u8, month: u8, year: u16) -> Date {
+pub(crate) fn date(day: u8, month: u8, year: u16) -> Date {
     Date { year, month, day }
 }
 
 // 1 March to 31 May.
-fn spring() -> Window {
+pub(crate) fn spring() -> Window {
     Window {
         first: on(1, 3),
         last: on(31, 5),

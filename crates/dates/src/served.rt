@@ -1,10 +1,8 @@
 // A day served on the legs that come back, beside the same day served on each of the two tables.
 use crate::line;
+use crate::named;
 use dayfile::Day;
 use dispatch::Dispatch;
-use season::Date;
-use season::MonthDay;
-use season::Window;
 
 // The day of case A.
 fn day_a() -> Day {
@@ -34,16 +32,13 @@ fn serve(legs: &[u32]) {
 
 // The same on the legs of the first day of a month, the window being that of March to May.
 fn on_day<'a>(ordinary: &'a [u32], thaw: &'a [u32], month: u8) {
-    let window = Window {
-        first: MonthDay { month: 3, day: 1 },
-        last: MonthDay { month: 5, day: 31 },
-    };
-    let date = Date {
-        year: 2_026,
-        month,
-        day: 1,
-    };
-    serve(season::legs(3, ordinary, thaw, window, date));
+    serve(season::legs(
+        3,
+        ordinary,
+        thaw,
+        named::spring(),
+        named::date(1, month, 2_026),
+    ));
 }
 
 pub(crate) fn days<'a>(ordinary: &'a [u32], thaw: &'a [u32]) {

@@ -6,9 +6,10 @@ use season::Date;
 use season::MonthDay;
 use season::Window;
 
-// 1 January of 2024 and of 2023, counted from 1 March of the year 0.
+// 1 January of 2024, counted from 1 March of the year 0.
 const LEAP: u64 = 739_191;
 
+// 1 January of 2023.
 const COMMON: u64 = 738_826;
 
 // How far the walk from a day of a leap year to another goes.

@@ -37,7 +37,7 @@ fn month_days(leap: bool, month: u8) -> u8
     if leap {
         return 29;
     }
-    28
+    DAYS[2]
 }
 
 // Whether a leap year, or a common one, has this month and day.

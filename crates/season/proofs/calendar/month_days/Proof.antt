@@ -21,8 +21,11 @@ returns-2 c = let a = c .before .before .args in sym (no-february (a .leap) (a .
 returns-3 : tie.Need-returns-3
 returns-3 c = rw (c .before .if2 .left, c .if3 .taken) (sym (february _))
 
+array-read-result-2 : tie.Need-array-read-result-2
+array-read-result-2 c = search needs
+
 returns-4 : tie.Need-returns-4
 returns-4 c = rw (c .before .if2 .left, c .if3 .left) (sym (february _))
 
 pub month-days-spec : {M : Type 1} → statement M
-month-days-spec = tie.close (tie.spec returns array-read-result returns-2 returns-3 returns-4)
+month-days-spec = tie.close (tie.spec returns array-read-result returns-2 returns-3 array-read-result-2 returns-4)
