@@ -3,7 +3,7 @@
 // served day. Prints what the program tells of document 01's days; for each group how many days were tried and of how many every figure and
 // the sheet agree; and for each group by other cranes than the quoted ones how many were tried, of how many every figure agrees, and how many
 // calls had another crane.
-// Stands on all the libraries here but `legorder` and `pairs`, and on the toolchain's `io` for writing.
+// Stands on all the libraries here but `legorder`, `pairs`, `season` and `near`, and on the toolchain's `io` for writing.
 mod days;
 mod drives;
 mod edges;
