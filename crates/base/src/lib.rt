@@ -3,7 +3,7 @@
 ghost use mathlib.Core.Path.{_≡_};
 ghost use Rattle.base.specs.Numbers.{numberOf, _then_};
 
-// One case for each row of document 01's refusal table, 1 to 11, for 12 of paper 3, 13 of paper 5 and 14 of paper 10.
+// One case for each row of document 01's refusal table, 1 to 11, for 12 of paper 3, 13 of paper 5, 14 of paper 10 and 15 of paper 11.
 pub enum Refusal {
     // The length of a file.
     Length,
@@ -33,6 +33,8 @@ pub enum Refusal {
     Driven,
     // A date that is not real or not of the years that count; an edge of a window that no year has.
     Date,
+    // A lower figure of a leg above its upper one.
+    Bounds,
 }
 
 // The answer of a test: accepted, or the first refusal that applies.
@@ -75,5 +77,6 @@ pub fn number(v: Verdict) -> u8
         Refusal::Crane => 12,
         Refusal::Driven => 13,
         Refusal::Date => 14,
+        Refusal::Bounds => 15,
     }
 }

@@ -9,13 +9,14 @@ use Rattle.base.proofs.Numbers.{told-alike}
 use Rattle.road.specs.Table.{Table}
 use Rattle.dayfile.specs.declared.Day.{Day}
 use Rattle.dayfile.specs.Day.{mostCranes, mostCalls, SameDay}
-use Rattle.dayfile.proofs.Ignored.{same-refusal}
+use Rattle.dayfile.proofs.Ignored.{same-placed, same-refusal}
 use Rattle.book.specs.declared.Book.{Book}
 use Rattle.book.specs.Book.{mostStops, stopsOf, follower, weight, SameBook}
 use Rattle.book.proofs.Ignored.{past-counts-ignored}
 use Rattle.dispatch.specs.Commit.{commitRefusal, tidied, driveOf, leastAfter, Committed, commitOf}
 use Rattle.dispatch.specs.Costs.{costsOf}
 use Rattle.dispatch.specs.NetCosts.{netsOf}
+use Rattle.dispatch.specs.PlanFloor.{planFloorOf}
 use Rattle.dispatch.specs.Quote.{quoteRefusal, quoteOf}
 use Rattle.dispatch.specs.ServedDay.{homeOf, servedDay}
 
@@ -93,3 +94,8 @@ module _ (a b : Day) (t : Table) (days : SameDay a b) where
   pub same-day-served : servedDay a t ≡ servedDay b t
   unfolding servedDay homeOf
   same-day-served = rw (same-refusal a b t days, days .starts, days .requests, days .places, days .calls)
+
+  -- the least plan
+  pub same-plan-floor : planFloorOf a t ≡ planFloorOf b t
+  unfolding planFloorOf
+  same-plan-floor = rw (same-placed a b t days, days .starts, days .requests)

@@ -5,7 +5,7 @@ use Prim.Native.Nat.{ℕ, _+_, _*_, _<_, _≤_}
 use mathlib.Core.Bool.{true}
 use mathlib.Core.List.{List, [], _∷_, _++_}
 use mathlib.Core.Logic.{_⊎_}
-use mathlib.Core.Path.{_≡_, refl, sym, _∙_}
+use mathlib.Core.Path.{_≡_, refl, sym, ap, _∙_}
 use lib.IntN.{ℤ, pos, _-ℤ_}
 use lib.ListN.{length, getD}
 use native.Mathlib.Decide.{ℕ-discrete}
@@ -20,8 +20,8 @@ use Rattle.workfunction.specs.Movement.{Instance, work}
 use Rattle.workfunction.specs.NetCost.{StopNets}
 use Rattle.workfunction.specs.Plan.{planRule, vouchRule, planCost, stops, legCost}
 use Rattle.workfunction.specs.Position.{Position}
-use Rattle.workfunction.proofs.Keys.{none, next, preferred-same}
-use Rattle.workfunction.proofs.NetCost.{Arrived, follower-on, whole, by-stops, nets-over, net-most, net-least, net-work, flipped-plan, flipped-rule, moved-plan, moved-rule, arrived-at, leg-before}
+use Rattle.workfunction.proofs.Keys.{none, next, preferred-least, preferred-same}
+use Rattle.workfunction.proofs.NetCost.{Arrived, follower-on, whole, by-stops, nets-over, net-most, net-least, net-work, flipped-plan, stayed-rule, flipped-rule, moved-plan, moved-rule, arrived-at, leg-before}
 use Rattle.workfunction.proofs.Plan.{Plan, plan-rule, stop-only}
 use Rattle.workfunction.proofs.Position.{position-set}
 use Rattle.workfunction.proofs.Stops.{place-last, place-stand}
@@ -78,6 +78,22 @@ module _ {k N : ℕ} {f : ℕ → ℕ} {c : ℕ → ℕ → ℕ} {s : ℕ} {g : 
             let high = near .0 in
             let low = near .1 in
             in-range (y b) (omega arith) (omega arith)
+
+  -- where the end is the least one it may stay where it is: they vouch for the plan in which it follows the call, whatever the legs
+  pub inserted-vouched : s ≡ leastEnd k N (taken .netEnd) c → vouchRule k (N + 1) g c y ≡ true
+  inserted-vouched chosen = stayed-rule plan self (taken .found .searched .nets) end-stop end-follows (taken .flipped) least y weighed
+    where
+      least : (q : ℕ) → q ≤ N → f q < k
+          → netOf f c (taken .total) (taken .before s) + c N (f (taken .before s)) ≤ netOf f c (taken .total) q + c N (f q)
+      least q hq end =
+          let free = taken .found .freed in
+          let stop = free .stop (f q) end in
+          let same = stop-only (whole plan self) (taken .before (f q)) q (omega arith) (omega arith) (free .follows (f q) end) in
+          let own = free .costs s (taken .end) in
+          let other = rw same at (free .costs (f q) end) in
+          let low = rw (← chosen) at (preferred-least (λ e. taken .netEnd e + c N e) (c N ∷ []) k (omega (arith, taken .end)) (f q) end) in
+          let way = ap (c N) (free .follows s (taken .end)) in
+          omega arith
 
 -- a weight that becomes 0
 pub range-moved : (n s : ℕ) (y z : ℕ → ℤ) → rangeRule n y ≡ true → z s ≡ pos 0 → ((b : ℕ) → (b ≡ s → ⊥) → z b ≡ y b) → rangeRule n z ≡ true

@@ -3,7 +3,7 @@
 -- net costs. Assumes nothing.
 use Prim.Native.Nat.{ℕ, suc, _+_, _*_, _<_, _≤_}
 use mathlib.Core.List.{List, [], _∷_, _++_, List·Memᴰ·not-nil}
-use mathlib.Core.Path.{_≡_, refl, sym, subst, _∙_}
+use mathlib.Core.Path.{_≡_, refl, sym, ap, subst, _∙_}
 use lib.IntN.{ℤ, pos, _+ℤ_}
 use lib.ListN.{length, getD, take}
 use lib.Signed.{_≤ℤ_}
@@ -14,15 +14,16 @@ use Rattle.base.proofs.Lists.{getD-padded, take-padded, take-upTo}
 use Rattle.road.specs.Table.{Table, mostMetres, metresOf}
 use Rattle.road.proofs.Surveyed.{surveyed-metric, surveyed-short}
 use Rattle.dayfile.specs.declared.Day.{Day}
-use Rattle.dayfile.specs.Day.{mostCranes, mostCalls, dayStarts, dayRequests, DayArrays, dayRefusal}
-use Rattle.dayfile.proofs.Limits.{Tested, day-tested, enough-starts, length-starts, length-requests}
+use Rattle.dayfile.specs.Day.{mostCranes, mostCalls, dayStarts, dayRequests, DayArrays, placedRefusal, dayRefusal}
+use Rattle.dayfile.proofs.Limits.{day-placed, placed-accepted, tested-placed, Tested, day-tested, enough-starts, length-starts, length-requests}
 use Rattle.workfunction.specs.Choice.{moved, drive, moveSum, netCost, rearrangementSum, Chosen}
 use Rattle.workfunction.specs.Least.{IsLeast}
 use Rattle.workfunction.specs.Movement.{Instance, Serves, LeastTo, work, floor}
-use Rattle.workfunction.specs.Plan.{planCost, legCost}
+use Rattle.workfunction.specs.Plan.{planCost, legCost, LeastHome, planFloor}
 use Rattle.workfunction.specs.Position.{distance}
 use Rattle.workfunction.specs.Serving.{Served, servedBy, serve, standsAfter}
 use Rattle.workfunction.proofs.Choice.{choice-below, choice-least, chosen-only, choice-chosen, work-by-net}
+use Rattle.workfunction.proofs.Least.{least-home, plan-floor-work}
 use Rattle.workfunction.proofs.Movement.{work-least, floor-least, floor-on, instance-first, instance-then, work-none, floor-none}
 use Rattle.workfunction.proofs.Position.{distance-self}
 use Rattle.workfunction.proofs.Serving.{serve-least, stands-placed, work-driven, netCost-most, Bounded, serve-bounded}
@@ -31,12 +32,14 @@ use Rattle.book.specs.Book.{startsOf, standsOf, requestsOf, stopsOf, follower, 
 use Rattle.dispatch.specs.Commit.{commitRefusal, tidied, bookAfter, driveOf, leastAfter, commitOf, Next}
 use Rattle.dispatch.specs.Costs.{costsOf}
 use Rattle.dispatch.specs.NetCosts.{netsOf}
+use Rattle.dispatch.specs.PlanFloor.{FloorTold, planFloorOf}
 use Rattle.dispatch.specs.Quote.{quoteRefusal, unserved, figuresOf, quoteOf}
 use Rattle.dispatch.specs.ServedDay.{nth, homeOf, servedDay}
 use Rattle.dispatch.proofs.Added.{CallAdded, next-arrays, next-added}
+use Rattle.dispatch.proofs.Roads.{placed-instance}
 use Rattle.dispatch.proofs.Called.{Called, quote-called, called-quote, commit-called, called-commit}
 use Rattle.book.proofs.FreshBook.{fresh-sound}
-use Rattle.book.proofs.Sound.{placed, stands-long, Sound, book-sound, sound-book, sound-fits, sound-metric, sound-instance, sound-standing, sound-work}
+use Rattle.book.proofs.Sound.{stands-long, Sound, book-sound, sound-book, sound-fits, sound-metric, sound-instance, sound-standing, sound-work}
 
 -- ---- a book
 
@@ -194,13 +197,9 @@ module _ (day : Day) (t : Table) (arrays : DayArrays day) (accepted : dayRefusal
   tests = day-tested day t accepted
 
   day-instance : Instance (day .places) (dayStarts day) (dayRequests day)
-  day-instance = record {
-    crane = rw (length-starts day arrays (tests .counts .cranes)) (tests .counts .crane);
-    started = record { cranes = refl; placed = placed (day .places) (dayStarts day) (tests .starts) };
-    called = placed (day .places) (dayRequests day) (tests .requests);
-  }
+  day-instance = placed-instance (tested-placed day t tests) arrays
 
-  day-floor-is : servedDay day t .floor ≡ floor (metresOf t) (day .places) (dayStarts day) (dayRequests day)
+  pub day-floor-is : servedDay day t .floor ≡ floor (metresOf t) (day .places) (dayStarts day) (dayRequests day)
   unfolding servedDay
   day-floor-is = rw accepted
 
@@ -297,3 +296,27 @@ module _ (day : Day) (t : Table) (arrays : DayArrays day) (accepted : dayRefusal
       let laws = surveyed-metric (tests .surveyed) in
       let least = work-none (metresOf t) (day .places) fresh fresh ∙ distance-self laws (uncalled .started) in
       rw (fresh-sound day t arrays accepted, take-padded mostCranes (day .cranes) (λ j. getD (day .starts) j 0) 0, least, floor-none laws uncalled)
+
+-- ---- the least plan of a day
+
+module _ (day : Day) (t : Table) where
+  -- what is told where the day is accepted
+  pub plan-floor-is : placedRefusal day t ≡ 0
+      → planFloorOf day t ≡ record { number = 0; floor = planFloor (metresOf t) (dayStarts day) (dayRequests day) }
+  unfolding planFloorOf
+  plan-floor-is accepted = rw accepted
+
+  -- the least cost of all plans that serve the day's calls and end at the starts, whether the table keeps the triangle rule or not
+  pub plan-floor-least : DayArrays day → placedRefusal day t ≡ 0
+      → LeastHome (metresOf t) (dayStarts day) (dayRequests day) (planFloorOf day t .floor)
+  plan-floor-least arrays accepted =
+      rw (plan-floor-is accepted) (least-home (placed-instance (day-placed day t accepted) arrays) (metresOf t))
+
+  -- where it does, the floor of the served day
+  pub plan-floor-served : DayArrays day → dayRefusal day t ≡ 0 → planFloorOf day t .floor ≡ servedDay day t .floor
+  plan-floor-served arrays accepted =
+      let tested = day-tested day t accepted in
+      let placed = tested-placed day t tested in
+      ap (λ (f : FloorTold). f .floor) (plan-floor-is (placed-accepted day t placed))
+      ∙ plan-floor-work (placed-instance placed arrays) (surveyed-metric (tested .surveyed))
+      ∙ sym (day-floor-is day t arrays accepted)

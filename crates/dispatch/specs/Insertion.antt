@@ -175,6 +175,40 @@ pub record EndsMoved (read : ℕ → ℕ → ℕ) (starts calls to plan : List �
   pub places : ℕ
   pub there : Movable places read starts calls to plan weights costs
 
+-- what taking in a call at r is given, the ends staying where they are: a plan with some ends, and room for the call
+pub record TakeGiven (read : ℕ → ℕ → ℕ) (starts calls : List ℕ) (r : ℕ) (plan : List ℕ) (weights : List ℤ) (costs : List ℕ) : Type 0 where
+  pub places : ℕ
+  pub stands : List ℕ
+  pub movable : Movable places read starts calls stands plan weights costs
+  pub on : r < places
+  pub space : length calls < mostCalls
+
+-- what taking it in delivers, whatever the ends are
+pub record CallTaken (read : ℕ → ℕ → ℕ) (starts calls : List ℕ) (r : ℕ) (plan : List ℕ) (weights : List ℤ) (costs plan' : List ℕ) (weights' : List ℤ)
+    (costs' : List ℕ) : Type 0 where
+  pub there : (n : ℕ) (stands : List ℕ) → Movable n read starts calls stands plan weights costs → r < n → length calls < mostCalls
+      → Movable n read starts (calls ++ (r ∷ [])) stands plan' weights' costs'
+
+-- what taking in all calls is given: a plan without calls
+pub record TakeAllGiven (read : ℕ → ℕ → ℕ) (starts calls plan : List ℕ) (weights : List ℤ) (costs : List ℕ) : Type 0 where
+  pub places : ℕ
+  pub stands : List ℕ
+  pub movable : Movable places read starts [] stands plan weights costs
+  pub called : (i : ℕ) → i < length calls → getD calls i 0 < places
+  pub few : length calls ≤ mostCalls
+
+-- they are in it
+pub record CallsTaken (read : ℕ → ℕ → ℕ) (starts calls plan : List ℕ) (weights : List ℤ) (costs plan' : List ℕ) (weights' : List ℤ)
+    (costs' : List ℕ) : Type 0 where
+  pub there : (n : ℕ) (stands : List ℕ) → Movable n read starts [] stands plan weights costs
+      → ((i : ℕ) → i < length calls → getD calls i 0 < n) → Movable n read starts calls stands plan' weights' costs'
+
+-- what the least plan of a day is given: metres within the limit, whether they keep the triangle rule or not
+pub record PlanGiven (read : ℕ → ℕ → ℕ) (starts calls : List ℕ) : Type 0 where
+  pub places : ℕ
+  pub legible : Legible places read read
+  pub asked : Asked places starts calls
+
 -- what the way home from the stands to the starts is given
 pub record HomeGiven (read : ℕ → ℕ → ℕ) (stands starts costs : List ℕ) : Type 0 where
   pub places : ℕ

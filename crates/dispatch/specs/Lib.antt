@@ -3,6 +3,7 @@ pub mod NetCosts
 pub mod Commit
 pub mod Costs
 pub mod ServedDay
+pub mod PlanFloor
 pub mod InTurn
 pub mod Legs
 pub mod Search

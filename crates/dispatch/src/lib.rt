@@ -1,6 +1,8 @@
-// What is answered of a book and of a day: the net costs and the quote of a call, the commit of a crane, the two least costs, the served day.
+// What is answered of a book and of a day: the net costs and the quote of a call, the commit of a crane, the two least costs, the served day,
+// and the least plan of a day over metres that need not keep the triangle rule.
 // Stands on `base`, `road`, `dayfile`, `workfunction` and `book`.
 mod call;
+mod calls;
 mod choice;
 mod commits;
 mod cost;
@@ -26,6 +28,7 @@ ghost use mathlib.Core.Path.{_≡_};
 ghost use Rattle.dispatch.specs.Commit.{commitRefusal, committed, commitOf, Next};
 ghost use Rattle.dispatch.specs.Costs.{twoCosts, costsOf};
 ghost use Rattle.dispatch.specs.NetCosts.{netList, netsOf};
+ghost use Rattle.dispatch.specs.PlanFloor.{floorTold, planFloorOf};
 ghost use Rattle.dispatch.specs.Quote.{quoted, quoteOf};
 ghost use Rattle.dispatch.specs.ServedDay.{dayFigures, servedDay};
 
@@ -70,6 +73,12 @@ pub struct ServedDay {
     pub leasts: [u64; Book::CALLS],
     pub driven: u64,
     pub home: u64,
+    pub floor: u64,
+}
+
+// The least cost of all plans of a day that end at its starts; or the refusal and 0.
+pub struct PlanFloor {
+    pub verdict: Verdict,
     pub floor: u64,
 }
 
@@ -137,5 +146,27 @@ impl Dispatch {
             return day::refused(verdict);
         };
         day::served(day, opening.book, table)
+    }
+
+    // The least cost of all plans that serve a day's calls and end at its starts. The table need not keep the triangle rule: the test of the
+    // day by 3, 6, 7, 4 and 5, and not by 8. Over a table that keeps it, this is the floor of the day.
+    pub fn plan_floor(day: Day, table: &[u32]) -> PlanFloor
+        ensures { λ r. ⌜ floorTold r ≡ planFloorOf day (now (table .entry)) ⌝ }
+    {
+        let tested = day.test_placed(table);
+        let Verdict::Accepted = tested else {
+            return PlanFloor {
+                verdict: tested,
+                floor: 0,
+            };
+        };
+        let starts = day.starts;
+        let requests = day.requests;
+        let cranes = day.cranes;
+        let calls = day.calls;
+        PlanFloor {
+            verdict: Verdict::Accepted,
+            floor: floor::of_day(table, &starts[..cranes], &requests[..calls]),
+        }
     }
 }

@@ -11,11 +11,12 @@ use Rattle.base.proofs.Lists.{upTo-same, padded-same}
 use Rattle.base.proofs.Numbers.{unless-zero, then-zero, told-alike, same-tests}
 use Rattle.road.specs.Table.{inOrder, metresOf}
 use Rattle.dayfile.specs.declared.Day.{Day}
-use Rattle.dayfile.specs.Day.{mostCranes, stopsRule, stopsRefusal, dayStarts, dayRequests, countsRefusal, placedRefusal, dayRefusal, dayRecords}
+use Rattle.dayfile.specs.Day.{mostCranes, stopsRule, stopsRefusal, dayStarts, dayRequests, DayArrays, countsRefusal, placedRefusal, dayRefusal, dayRecords}
 use Rattle.dayfile.specs.File.{dayBytes, writeFile}
 use Rattle.dayfile.specs.Legs.{leg}
 use Rattle.dayfile.proofs.Limits.{stop-below, Tested, day-placed, day-tested}
 use Rattle.workfunction.specs.Position.{Position}
+use Rattle.workfunction.proofs.Least.{plan-floor-same}
 use Rattle.workfunction.proofs.Serving.{stands-placed}
 use Rattle.workfunction.proofs.Same.{distance-same, work-same, floor-same, workThen-same, drive-same, netCost-same, served-same, serve-same, standsAfter-same}
 use Rattle.book.specs.declared.Book.{Book}
@@ -29,12 +30,14 @@ use Rattle.near.proofs.NearCranes.{near-alike}
 use Rattle.dispatch.specs.Commit.{commitRefusal, commitOf}
 use Rattle.dispatch.specs.Costs.{costsOf}
 use Rattle.dispatch.specs.NetCosts.{netsOf}
+use Rattle.dispatch.specs.PlanFloor.{planFloorOf}
 use Rattle.dispatch.specs.Quote.{quoteRefusal, quoteOf}
 use Rattle.dispatch.specs.ServedDay.{homeOf, servedDay}
 use Rattle.dispatch.proofs.Called.{Called, quote-called, commit-called}
+use Rattle.dispatch.proofs.Roads.{placed-instance}
 use Rattle.sheet.specs.Sheet.{sheetRows, sheetOf}
 use Rattle.half.specs.Square.{Square, squareMetres, squareRefusal, halfOf}
-use Rattle.half.specs.Told.{squarePlacedRefusal, squareDayRefusal, squareBookRefusal, squareFresh, squareCosts, squareQuoteRefusal, squareQuote, squareNets, squareCommitRefusal, squareCommit, squareNear, squareOccupancy, squareServed, squareSheet, squareFile}
+use Rattle.half.specs.Told.{squarePlacedRefusal, squareDayRefusal, squareBookRefusal, squareFresh, squareCosts, squareQuoteRefusal, squareQuote, squareNets, squareCommitRefusal, squareCommit, squareNear, squareOccupancy, squarePlanFloor, squareServed, squareSheet, squareFile}
 use Rattle.half.proofs.Half.{half-distance, half-places, half-run, half-metres, square-legs, half-triangles, square-triangles}
 
 -- places that keep their rule, as many as they are
@@ -92,6 +95,14 @@ module _ (day : Day) (s : Square) (h : squareRefusal (day .places) s ≡ 0) wher
       let home = distance-same (half-distance (day .places) s h) last starts in
       let floor = floor-same (half-distance (day .places) s h) starts (dayRequests day) in
       rw (all, stands, home, floor))
+      (λ k. refl)
+
+  -- its least plan that ends at the starts
+  pub half-plan-floor : DayArrays day → planFloorOf day (halfOf (day .places) s) ≡ squarePlanFloor day s
+  unfolding planFloorOf squarePlanFloor
+  half-plan-floor arrays =
+      told-alike _≡_ _ _ half-placed
+      (λ z. rw (plan-floor-same (placed-instance (day-placed day (halfOf (day .places) s) z) arrays) (half-distance (day .places) s h)))
       (λ k. refl)
 
   -- its sheet

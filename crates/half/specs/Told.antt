@@ -13,7 +13,7 @@ use Rattle.dayfile.specs.Day.{mostCranes, cranesRule, callsRule, stopsRefusal, 
 use Rattle.dayfile.specs.File.{Output, outputOf, dayBytes}
 use Rattle.workfunction.specs.Choice.{moved, drive, netCost}
 use Rattle.workfunction.specs.Movement.{work, floor}
-use Rattle.workfunction.specs.Plan.{legCost}
+use Rattle.workfunction.specs.Plan.{legCost, planFloor}
 use Rattle.workfunction.specs.Position.{distance}
 use Rattle.workfunction.specs.Serving.{served, serve, standsAfter}
 use Rattle.book.specs.declared.Book.{Book}
@@ -24,6 +24,7 @@ use Rattle.near.specs.Occupancy.{holdsCrane, HeldPlaces}
 use Rattle.dispatch.specs.Commit.{askedCraneRefusal, tidied, bookAfter, Committed}
 use Rattle.dispatch.specs.Costs.{TwoCosts}
 use Rattle.dispatch.specs.NetCosts.{NetList}
+use Rattle.dispatch.specs.PlanFloor.{FloorTold}
 use Rattle.dispatch.specs.Quote.{askedPlaceRefusal, fullRefusal, Quoted, unserved}
 use Rattle.dispatch.specs.ServedDay.{DayFigures, allFigures, noFigures}
 use Rattle.sheet.specs.Row.{rowBytes}
@@ -46,6 +47,12 @@ squareBookRefusal book n s =
     planRefusal (book .cranes) (stopsOf book) (book .plan) then
     weightsRefusal (book .cranes) (stopsOf book) (book .plan) (book .weights)
     (legCost (squareMetres s) (startsOf book) (requestsOf book) (standsOf book)) then drivenRefusal (book .calls) (drivenOf book)
+
+-- paper 11: the least plan of a day that ends at its starts
+unfoldable pub squarePlanFloor : Day → Square → FloorTold
+squarePlanFloor day s =
+    unlessRefused (squarePlacedRefusal day s) (record { number = 0; floor = planFloor (squareMetres s) (dayStarts day) (dayRequests day) })
+    (λ m. record { number = m; floor = 0 })
 
 -- the fresh book of a day
 unfoldable pub squareFresh : Day → Square → Opened

@@ -1,23 +1,25 @@
--- The least plan: some plan costs it, and none less; more where legs cost more; and w of its ends where the legs are those of a metric.
+-- The least plan: some plan costs it, and none less; more where legs cost more; and w of its ends where the legs are those of a metric. The
+-- same of plans that end at the starts.
 -- Assumes nothing.
 use Prim.Native.Nat.{ℕ, zero, suc, _<_, _≤_}
 use mathlib.Core.List.{List, List·Memᴰ, Forall₂, Forall₂·nil, Forall₂·cons}
-use mathlib.Core.Path.{_≡_, ap, _∙_}
+use mathlib.Core.Path.{_≡_, refl, sym, ap, _∙_}
 use lib.ListN.{length, getD, replicate}
-use native.Mathlib.Nat.{le-antisymm, le-trans, le-of-eq}
+use native.Mathlib.Nat.{le-antisymm, le-refl, le-trans, le-of-eq}
 use native.Mathlib.Omega.{arith}
 use Rattle.base.specs.Lists.{upTo}
 use Rattle.base.specs.Metric.{Metric}
 use Rattle.base.proofs.Lists.{getD-upTo}
 use Rattle.workfunction.specs.Least.{IsLeast}
 use Rattle.workfunction.specs.Lists.{sections}
-use Rattle.workfunction.specs.Movement.{Instance, work}
-use Rattle.workfunction.specs.Plan.{follows, planCost, plans, leastPlan, stops, legCost}
+use Rattle.workfunction.specs.Movement.{Instance, work, floor}
+use Rattle.workfunction.specs.Plan.{follows, planCost, plans, leastPlan, stops, legCost, LeastHome, planFloor}
 use Rattle.workfunction.specs.Position.{Position}
 use Rattle.workfunction.proofs.Lists.{minimum-least, filter-in, in-filter, sections-in, upTo-in}
 use Rattle.workfunction.proofs.Movement.{work-least}
 use Rattle.workfunction.proofs.Plan.{Plan, plan-facts, plan-rule, Vouched, plan-least}
 use Rattle.workfunction.proofs.Planned.{plan-below}
+use Rattle.workfunction.proofs.Stops.{stop-placed, follower-placed}
 use Rattle.workfunction.proofs.Sums.{sum-same, sum-le}
 use Rattle.workfunction.proofs.Witness.{leg-call, leg-stand, work-plan}
 
@@ -90,6 +92,12 @@ module _ {k N : ℕ} where
       let each = sum-le N (λ p. c p (best .0 p)) (λ p. c' p (best .0 p)) (λ p h. more p (best .0 p) h (best .1 .below p h)) in
       rw (← best .2) (le-trans (least-plan c plan .below (best .0) (best .1)) each)
 
+  -- legs that cost the same, the same least
+  pub least-plan-same : {c c' : ℕ → ℕ → ℕ} {f : ℕ → ℕ} → Plan k N f → ((p b : ℕ) → p < N → b < N → c p b ≡ c' p b)
+      → leastPlan k N c ≡ leastPlan k N c'
+  least-plan-same plan same =
+      le-antisymm (least-plan-more plan (λ p b h l. le-of-eq (same p b h l))) (least-plan-more plan (λ p b h l. le-of-eq (sym (same p b h l))))
+
 -- over distances it is w
 pub least-plan-work : {n : ℕ} {d : ℕ → ℕ → ℕ} {starts calls C : List ℕ} → Metric n d → Instance n starts calls → Position n (length starts) C
     → leastPlan (length starts) (stops starts calls) (legCost d starts calls C) ≡ work d n starts calls C
@@ -98,3 +106,38 @@ least-plan-work {d = d} {starts} {calls} {C} laws day at =
     let least = least-plan (legCost d starts calls C) (some .1) in
     let best = least .attained in
     le-antisymm (le-trans (least .below (some .0) (some .1)) (some .2)) (rw (← best .2) (work-plan laws day at (best .1)))
+
+-- ---- plans that end at the starts
+
+-- there is a plan, however far apart the places are: metres of 0 are a metric
+pub some-plan : {n : ℕ} {starts calls : List ℕ} → Instance n starts calls → (f : ℕ → ℕ) × Plan (length starts) (stops starts calls) f
+some-plan {n} day = let some = plan-for none day (day .started) in (some .0, some .1)
+  where
+    none : Metric n (λ u v. 0)
+    none = record { self = λ u h. refl; both-ways = λ u v p q. refl; triangle = λ u v w p q r. le-refl 0 }
+
+module _ {n : ℕ} {starts calls : List ℕ} (day : Instance n starts calls) where
+  -- the number that computes is the least cost of a plan that ends at the starts, whatever the metres
+  pub least-home : (d : ℕ → ℕ → ℕ) → LeastHome d starts calls (planFloor d starts calls)
+  least-home d =
+      let least = least-plan (legCost d starts calls starts) (some-plan day .1) in
+      let best = least .attained in
+      record {
+        attained = (best .0, plan-rule (best .1), best .2);
+        below = λ f rule. least .below f (plan-facts (length starts) (stops starts calls) f rule);
+      }
+
+  -- longer ways between the places, no lower a least
+  pub plan-floor-more : {d d' : ℕ → ℕ → ℕ} → ((u v : ℕ) → u < n → v < n → d u v ≤ d' u v) → planFloor d starts calls ≤ planFloor d' starts calls
+  unfolding legCost
+  plan-floor-more more =
+      least-plan-more (some-plan day .1) (λ p b h l. more _ _ (stop-placed day p h) (follower-placed day (day .started) b l))
+
+  -- ways that are as long, the same least
+  pub plan-floor-same : {d d' : ℕ → ℕ → ℕ} → ((u v : ℕ) → u < n → v < n → d u v ≡ d' u v) → planFloor d starts calls ≡ planFloor d' starts calls
+  plan-floor-same same = le-antisymm (plan-floor-more (λ u v p q. le-of-eq (same u v p q))) (plan-floor-more (λ u v p q. le-of-eq (sym (same u v p q))))
+
+  -- over a metric it is the floor, w(starts)
+  pub plan-floor-work : {d : ℕ → ℕ → ℕ} → Metric n d → planFloor d starts calls ≡ floor d n starts calls
+  unfolding floor
+  plan-floor-work laws = least-plan-work laws day (day .started)

@@ -224,6 +224,29 @@ module _ {k N base : ℕ} {f : ℕ → ℕ} {c : ℕ → ℕ → ℕ} {net paren
               let other = parts (g p) (flipped-plan .below p h) in
               omega arith
 
+    -- ---- N stays, followed by an end that stays too: by no law of a metric, where no end has less of net cost and way from N together
+
+    module _ (least : (q : ℕ) → q ≤ N → f q < k → net t + c N (f t) ≤ net q + c N (f q)) where
+      stayed-before : (p q : ℕ) → p ≤ N → q ≤ N → (f q < k) ⊎ (p < f q) → netBefore (g p) + c p (g p) ≤ netBefore (f q) + c p (f q)
+      stayed-before p q h hq m = ⊎-elim last early (eq-or-lt-of-le h)
+        where
+          early : p < N → netBefore (g p) + c p (g p) ≤ netBefore (f q) + c p (f q)
+          early less = rw (leg-net p less, net-before q hq) (costs .least p q less hq m)
+
+          last : p ≡ N → netBefore (g p) + c p (g p) ≤ netBefore (f q) + c p (f q)
+          last z =
+              let on = follower-on plan self q hq in
+              let end : f q < k = ⊎-elim (λ (end : f q < k). end) (λ (l : p < f q). absurd (omega arith)) m in
+              rw (z, flipped .freed, net-before t (le-of-lt tlt), net-before q hq) (least q hq end)
+
+      stayed-follower : (p b : ℕ) → p < N + 1 → b < N + 1 → (b < k) ⊎ (p < b) → netBefore (g p) + c p (g p) ≤ netBefore b + c p b
+      stayed-follower p b h =
+          by-stops plan self (λ b. (b < k) ⊎ (p < b) → netBefore (g p) + c p (g p) ≤ netBefore b + c p b)
+          (λ q hq. stayed-before p q (omega arith) hq) b
+
+      pub stayed-rule : (y : ℕ → ℤ) → ((q : ℕ) → q ≤ N → y (f q) ≡ pos base -ℤ pos (net q)) → vouchRule k (N + 1) g c y ≡ true
+      stayed-rule y weighed = lowest-rule c netBefore stayed-follower y (λ q hq. rw (net-before q hq) (weighed q hq))
+
     -- ---- crane s goes to the call
 
     module _ {s : ℕ} {c' : ℕ → ℕ → ℕ} (serves : f t ≡ s) (arrived : Arrived N s c c') where

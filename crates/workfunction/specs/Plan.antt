@@ -5,12 +5,14 @@
 use Prim.Native.Nat.{ℕ, _+_}
 use mathlib.Core.Bool.{Bool, true, cond, _&&_, _||_}
 use mathlib.Core.List.{List, _++_, map}
+use mathlib.Core.Path.{_≡_}
 use lib.Dec.{ltb, eqb}
 use lib.IntN.{ℤ, pos, _-ℤ_}
 use lib.ListN.{length, getD, replicate}
 use lib.Signed.{leZ}
 use Rattle.base.specs.Lists.{upTo}
 use Rattle.base.specs.Tests.{allBelow}
+use Rattle.workfunction.specs.Least.{IsLeast}
 use Rattle.workfunction.specs.Lists.{minimum, sumBelow, filter, sections}
 
 -- "A start may be followed by any call or any stand; a call by a later call or any stand."
@@ -73,3 +75,11 @@ module _ (d : ℕ → ℕ → ℕ) (starts calls : List ℕ) where
   -- d(p,b): "For a stop or a crane, d is taken at its place or present stand."
   unfoldable pub legCost : List ℕ → ℕ → ℕ → ℕ
   legCost stands p b = d (place starts calls p) (place stands calls b)
+
+  -- paper 11: "the least cost of a plan that ends at the starts": a number is that, with d any metres
+  abbrev pub LeastHome : ℕ → Type 0
+  LeastHome = IsLeast (λ f. planRule (length starts) (stops starts calls) f ≡ true) (planCost (stops starts calls) (legCost starts))
+
+  -- the same as a number that computes
+  abbrev pub planFloor : ℕ
+  planFloor = leastPlan (length starts) (stops starts calls) (legCost starts)

@@ -10,16 +10,18 @@ use lib.IntN.{ℤ, pos}
 use lib.ListN.{length, getD, set, drop, length-set, length-append, length-drop, length-replicate, drop-of-length-le, replicate, getD-replicate}
 use lib.Seq.{take-all}
 use native.Mathlib.Decide.{ℕ-discrete}
-use native.Mathlib.Nat.{add-zero, le-antisymm, le-refl, le-trans, le-of-eq}
+use native.Mathlib.Nat.{add-zero, le-refl, le-trans, le-of-eq}
 use native.Mathlib.Omega.{arith}
 use Rattle.base.specs.Lists.{upTo, padded}
 use Rattle.base.proofs.Lists.{length-upTo, length-padded, getD-front, getD-padded, take-upTo, Filled, fill-begun, fill-turned, fill-ended}
 use Rattle.base.proofs.Tests.{below-at, below-all}
+use Rattle.road.specs.Table.{Table, mostPlaces, metresOf, entry}
+use Rattle.road.proofs.Table.{entry-in as read-in, metres-self}
 use Rattle.workfunction.specs.Choice.{moved}
 use Rattle.workfunction.specs.Movement.{Instance, work, floor}
 use Rattle.workfunction.specs.Plan.{planCost, stops, place, legCost, leastPlan}
 use Rattle.workfunction.specs.Position.{Position}
-use Rattle.workfunction.proofs.Least.{vouched-least, least-plan-more, plan-for, least-plan-work}
+use Rattle.workfunction.proofs.Least.{vouched-least, least-plan-same, some-plan, least-plan-work}
 use Rattle.workfunction.proofs.Plan.{plan-facts, plan-rule, vouch-facts}
 use Rattle.workfunction.proofs.Stops.{stop-placed, follower-placed}
 use Rattle.workfunction.proofs.Sums.{entry-in}
@@ -141,14 +143,23 @@ module _ {n : ℕ} {d read : ℕ → ℕ → ℕ} (legible : Legible n d read) w
     weightsLong = weightsLong;
   }
 
+-- without calls each start is followed by itself, as it is made
+pub own-movable : {n : ℕ} (t : Table) (starts : List ℕ) {plan : List ℕ} {weights : List ℤ} {costs : List ℕ}
+    → Legible n (entry (metresOf t)) (entry (metresOf t)) → Asked n starts [] → plan ≡ padded planRoom (length starts) (λ j. j) 0
+    → weights ≡ replicate planRoom (pos 0) → LegTable mostPlaces (entry (metresOf t)) starts [] starts costs
+    → Movable n (entry (metresOf t)) starts [] starts plan weights costs
+own-movable {n} t starts legible asked e z table =
+    let own = own-made (length starts) (omega (arith, asked .cranes)) e z in
+    kept-movable legible (own-kept self asked (table-over table (legible .few) (λ p x h l. refl)) own) (own .planLong) (own .weightsLong)
+  where
+    self : (u : ℕ) → u < n → entry (metresOf t) u u ≡ 0
+    self u h = let on = le-trans h (legible .few) in read-in (metresOf t) u u on on ∙ metres-self t u u refl
+
 -- the least of all plans over a metric, as it is read
 pub ends-work : {n : ℕ} {d read : ℕ → ℕ → ℕ} → Roads n d read → {starts calls to : List ℕ} → Instance n starts calls → Position n (length starts) to
     → leastPlan (length starts) (stops starts calls) (legCost read starts calls to) ≡ work d n starts calls to
 ends-work roads {starts} {calls} {to} day ending =
-    let plan = plan-for (roads .laws) day ending .1 in
-    let same = read-leg (roads .legible) day ending in
-    le-antisymm (least-plan-more plan (λ p b h l. le-of-eq (same p b h l))) (least-plan-more plan (λ p b h l. le-of-eq (sym (same p b h l))))
-    ∙ least-plan-work (roads .laws) day ending
+    least-plan-same (some-plan day .1) (read-leg (roads .legible) day ending) ∙ least-plan-work (roads .laws) day ending
 
 pub ends-floor : {n : ℕ} {d read : ℕ → ℕ → ℕ} → Roads n d read → {starts calls : List ℕ} → Instance n starts calls
     → leastPlan (length starts) (stops starts calls) (legCost read starts calls starts) ≡ floor d n starts calls

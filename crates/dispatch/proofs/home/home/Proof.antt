@@ -1,15 +1,11 @@
 -- `dispatch::home::home` meets its contract: at first each stand is followed by itself, and such a plan may have its ends moved to the
 -- starts. Assumes nothing.
-use Prim.Native.Nat.{ℕ, _<_}
-use mathlib.Core.Path.{_≡_, refl, _∙_}
+use mathlib.Core.Path.{refl}
 use borrow.Author.Needs.{needs}
 use native.Mathlib.Nat.{le-trans, not-suc-le-zero}
 use native.Mathlib.Omega.{arith}
-use Rattle.road.specs.Table.{metresOf, entry}
-use Rattle.road.proofs.Table.{entry-in as read-in, metres-self}
 use Rattle.workfunction.proofs.Sums.{entry-in}
-use Rattle.dispatch.proofs.LegTable.{table-over}
-use Rattle.dispatch.proofs.ends.Laws.{own-made, own-kept, kept-movable}
+use Rattle.dispatch.proofs.ends.Laws.{own-movable}
 use Rattle.dispatch.proofs.home.home.Statement.{statement}
 use Rattle.dispatch.proofs.home.home.Tie as tie
 
@@ -49,16 +45,10 @@ least-requires c κs =
     let o = w .before in
     let s = o .before .before .before .before .before in
     let p = s .pre in
-    let own = own-made _ (omega (arith, p .asked .cranes)) (o .own .ensures) (w .zeros .ensures) in
-    let legs = table-over (f .fill .ensures) (p .legible .few) (λ q x h l. refl) in
-    let t = s .args .table .now in
-    let self : (u : ℕ) → u < p .places → entry (metresOf t) u u ≡ 0 =
-    λ u h. let on = le-trans h (p .legible .few) in read-in (metresOf t) u u on on ∙ metres-self t u u refl
-    in
     record {
       places = p .places;
       stands = s .args .stands .now;
-      movable = kept-movable (p .legible) (own-kept self (p .asked) legs own) (own .planLong) (own .weightsLong);
+      movable = own-movable _ _ (p .legible) (p .asked) (o .own .ensures) (w .zeros .ensures) (f .fill .ensures);
       ending = p .ending;
     }
 
