@@ -94,18 +94,6 @@ fn add_small(before: Tally, number: u64) -> Tally {
     add(before, told, right)
 }
 
-// Small days, whose floors the search finds too.
-pub(crate) fn small() {
-    let mut tally = NONE;
-    for number in 0..4_000 {
-        tally = add_small(tally, number);
-    }
-    print(
-        b"small days; floors as by all plans; lower and upper floor differ; lower tables that break the triangle rule",
-        tally,
-    );
-}
-
 // The random day of a number too: of 3 to 6 places, 1 to 4 cranes and 1 to 12 calls.
 fn add_random(before: Tally, number: u64) -> Tally {
     let places = (draw::number(number, 6, 0) % 4) as usize + 3;
@@ -116,15 +104,32 @@ fn add_random(before: Tally, number: u64) -> Tally {
     add(before, told, right)
 }
 
-// Random days, the floor over the table in between beside the other two.
-pub(crate) fn random() {
-    let mut tally = NONE;
-    for number in 0..1_000 {
-        tally = add_random(tally, number);
+// A day of a number too.
+fn add_day(before: Tally, number: u64, small: bool) -> Tally {
+    if small {
+        return add_small(before, number);
     }
+    add_random(before, number)
+}
+
+// So many days.
+fn tallied(days: u64, small: bool) -> Tally {
+    let mut tally = NONE;
+    for number in 0..days {
+        tally = add_day(tally, number, small);
+    }
+    tally
+}
+
+// Small days, whose floors the search finds too; then random ones, the floor over the table in between beside the other two.
+pub(crate) fn each() {
+    print(
+        b"small days; floors as by all plans; lower and upper floor differ; lower tables that break the triangle rule",
+        tallied(4_000, true),
+    );
     print(
         b"random days; floor in between; lower and upper floor differ; lower tables that break the triangle rule",
-        tally,
+        tallied(1_000, false),
     );
 }
 

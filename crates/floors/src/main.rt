@@ -28,7 +28,6 @@ fn refusals() {
 fn main() {
     cases();
     refusals();
-    days::small();
-    days::random();
+    days::each();
     days::full();
 }

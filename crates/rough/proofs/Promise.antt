@@ -1,26 +1,23 @@
 -- What is promised of the floors of roads known only roughly, for every day and every two tables that are accepted. Assumes nothing.
-use Prim.Native.Nat.{ℕ, _<_, _≤_}
+use Prim.Native.Nat.{ℕ, _≤_}
 use mathlib.Core.List.{List}
-use mathlib.Core.Path.{_≡_, refl, sym, _∙_}
-use lib.ListN.{length, getD}
-use native.Mathlib.Nat.{le-trans, le-of-eq}
-use native.Mathlib.Omega.{arith}
-use Rattle.base.specs.Numbers.{_then_}
-use Rattle.base.proofs.Numbers.{then-zero, zeros-told, told-alike}
+use mathlib.Core.Path.{_≡_, sym}
+use lib.ListN.{length}
+use native.Mathlib.Nat.{le-trans}
+use Rattle.base.proofs.Numbers.{then-zero, zeros-told}
 use Rattle.road.specs.Table.{Table, metresOf, runRefusal, tableRefusal}
 use Rattle.road.proofs.Surveyed.{surveyed-metric, table-surveyed}
 use Rattle.road.proofs.Table.{run-accepted}
 use Rattle.dayfile.specs.declared.Day.{Day}
 use Rattle.dayfile.specs.Day.{dayStarts, dayRequests, DayArrays, SameDay, dayRefusal}
 use Rattle.dayfile.proofs.Limits.{day-accepted}
-use Rattle.workfunction.specs.Movement.{Instance, Movement, cost, LeastTo, floor}
+use Rattle.workfunction.specs.Movement.{Instance, Movement, cost, floor}
 use Rattle.workfunction.specs.Plan.{LeastHome, planFloor}
 use Rattle.workfunction.proofs.Least.{least-home, plan-floor-more, plan-floor-work}
 use Rattle.workfunction.proofs.Movement.{floor-least}
 use Rattle.book.specs.declared.Book.{Book}
 use Rattle.book.specs.Book.{startsOf, requestsOf, bookRefusal}
 use Rattle.dispatch.specs.Costs.{costsOf}
-use Rattle.dispatch.specs.PlanFloor.{planFloorOf}
 use Rattle.dispatch.specs.ServedDay.{servedDay}
 use Rattle.dispatch.proofs.Promise.{day-floor-is}
 use Rattle.dispatch.proofs.Roads.{placed-instance}

@@ -1,9 +1,8 @@
 -- `rough::floors` meets its contract: a refusal is handed up with zeros; once all is tested neither least plan is refused, and the two are the
 -- floors. Assumes nothing.
 use Prim.Native.Nat.{ℕ}
-use mathlib.Core.Path.{_≡_, sym, ap, _∙_}
+use mathlib.Core.Path.{_≡_, _∙_}
 use borrow.Author.Needs.{needs}
-use Rattle.base.specs.Numbers.{numberOf}
 use Rattle.base.proofs.Numbers.{zeros-told, accepts, refused-number}
 use Rattle.road.specs.Table.{Table}
 use Rattle.dayfile.specs.declared.Day.{Day}

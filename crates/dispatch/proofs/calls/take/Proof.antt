@@ -1,10 +1,7 @@
 -- `dispatch::calls::take` meets its contract: there is room for the call, and the end that follows it is the least one. Assumes nothing.
-use Prim.Native.Nat.{_<_}
 use borrow.Author.Needs.{needs}
 use native.Mathlib.Nat.{le-trans}
 use native.Mathlib.Omega.{arith}
-use Rattle.workfunction.specs.Plan.{stops}
-use Rattle.dispatch.specs.Legs.{planRoom}
 use Rattle.dispatch.proofs.Taken.{kept-witnessed}
 use Rattle.dispatch.proofs.ends.Laws.{movable-few, movable-long}
 use Rattle.dispatch.proofs.calls.Laws.{call-taken}

@@ -7,7 +7,6 @@ use borrow.Author.Needs.{needs}
 use borrow.Author.Tests.{le-leb, lt-leb, ltb-true, ltb-false}
 use lib.Dec.{leb, ltb}
 use lib.ListN.{length, getD}
-use native.Mathlib.Omega.{arith}
 use Rattle.base.proofs.Tests.{Passed, begun, turned, ended, below-fails}
 use Rattle.rough.specs.Rough.{boundsRule}
 use Rattle.rough.proofs.bounds.test.Statement.{statement}

@@ -1,12 +1,11 @@
 -- `rough::tests::test` meets its contract: each refusal is handed up, and where none applies the next test decides. Assumes nothing.
 use Prim.Native.Nat.{ℕ}
-use mathlib.Core.Bool.{true}
 use mathlib.Core.Path.{_≡_, sym, _∙_}
 use borrow.Author.Needs.{needs}
 use lib.ListN.{length}
 use Rattle.base.specs.Numbers.{_then_}
 use Rattle.base.proofs.Numbers.{accepts, holds, asked-again, goes-on, handed-up, same-tests}
-use Rattle.road.specs.Table.{legsRule, legsRefusal}
+use Rattle.road.specs.Table.{legsRefusal}
 use Rattle.dayfile.proofs.Limits.{CountsTested, run-tested}
 use Rattle.rough.specs.Rough.{twoCountsRefusal, roughRefusal}
 use Rattle.rough.proofs.Tested.{two-counts, places-left}
