@@ -19,11 +19,11 @@ use Rattle.dayfile.proofs.Limits.{day-placed, placed-accepted, tested-placed, T
 use Rattle.workfunction.specs.Choice.{moved, drive, moveSum, netCost, rearrangementSum, Chosen}
 use Rattle.workfunction.specs.Least.{IsLeast}
 use Rattle.workfunction.specs.Movement.{Instance, Serves, LeastTo, work, floor}
-use Rattle.workfunction.specs.Plan.{planCost, legCost, LeastHome, planFloor}
+use Rattle.workfunction.specs.Plan.{planCost, legCost, LeastOfPlans, planFloor}
 use Rattle.workfunction.specs.Position.{distance}
 use Rattle.workfunction.specs.Serving.{Served, servedBy, serve, standsAfter}
 use Rattle.workfunction.proofs.Choice.{choice-below, choice-least, chosen-only, choice-chosen, work-by-net}
-use Rattle.workfunction.proofs.Least.{least-home, plan-floor-work}
+use Rattle.workfunction.proofs.Least.{least-of-plans, plan-floor-work}
 use Rattle.workfunction.proofs.Movement.{work-least, floor-least, floor-on, instance-first, instance-then, work-none, floor-none}
 use Rattle.workfunction.proofs.Position.{distance-self}
 use Rattle.workfunction.proofs.Serving.{serve-least, stands-placed, work-driven, netCost-most, Bounded, serve-bounded}
@@ -308,9 +308,9 @@ module _ (day : Day) (t : Table) where
 
   -- the least cost of all plans that serve the day's calls and end at the starts, whether the table keeps the triangle rule or not
   pub plan-floor-least : DayArrays day → placedRefusal day t ≡ 0
-      → LeastHome (metresOf t) (dayStarts day) (dayRequests day) (planFloorOf day t .floor)
+      → LeastOfPlans (metresOf t) (dayStarts day) (dayRequests day) (planFloorOf day t .floor)
   plan-floor-least arrays accepted =
-      rw (plan-floor-is accepted) (least-home (placed-instance (day-placed day t accepted) arrays) (metresOf t))
+      rw (plan-floor-is accepted) (least-of-plans (placed-instance (day-placed day t accepted) arrays) (metresOf t))
 
   -- where it does, the floor of the served day
   pub plan-floor-served : DayArrays day → dayRefusal day t ≡ 0 → planFloorOf day t .floor ≡ servedDay day t .floor

@@ -1,3 +1,2 @@
-pub mod Tested
 pub mod Promise
 pub mod Cases

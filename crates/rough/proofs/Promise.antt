@@ -12,8 +12,8 @@ use Rattle.dayfile.specs.declared.Day.{Day}
 use Rattle.dayfile.specs.Day.{dayStarts, dayRequests, DayArrays, SameDay, dayRefusal}
 use Rattle.dayfile.proofs.Limits.{day-accepted}
 use Rattle.workfunction.specs.Movement.{Instance, Movement, cost, floor}
-use Rattle.workfunction.specs.Plan.{LeastHome, planFloor}
-use Rattle.workfunction.proofs.Least.{least-home, plan-floor-more, plan-floor-work}
+use Rattle.workfunction.specs.Plan.{LeastOfPlans, planFloor}
+use Rattle.workfunction.proofs.Least.{least-of-plans, plan-floor-more, plan-floor-work}
 use Rattle.workfunction.proofs.Movement.{floor-least}
 use Rattle.book.specs.declared.Book.{Book}
 use Rattle.book.specs.Book.{startsOf, requestsOf, bookRefusal}
@@ -22,7 +22,8 @@ use Rattle.dispatch.specs.ServedDay.{servedDay}
 use Rattle.dispatch.proofs.Promise.{day-floor-is}
 use Rattle.dispatch.proofs.Roads.{placed-instance}
 use Rattle.rough.specs.Rough.{twoCountsRefusal, roughRefusal, Between, TwoFloors, noFloors, roughOf}
-use Rattle.rough.proofs.Tested.{counts-with, RoughTested, rough-tested, metres-more, bounds-between}
+use Rattle.rough.proofs.bounds.Laws.{bounds-hold, metres-more}
+use Rattle.rough.proofs.tests.Laws.{counts-with, RoughTested, rough-tested}
 
 -- a refusal's floors are 0
 pub rough-refused : (day : Day) (lower upper : Table) → (roughRefusal day lower upper ≡ 0 → ⊥)
@@ -56,16 +57,17 @@ module _ (day : Day) (lower upper : Table) (arrays : DayArrays day) (accepted : 
   upper-is = rw accepted
 
   -- "each the least cost of a plan that ends at the starts under that table": some plan costs it, and none less
-  pub lower-least : LeastHome (metresOf lower) starts calls (told .lower)
-  lower-least = rw lower-is (least-home day-instance (metresOf lower))
+  pub lower-least : LeastOfPlans (metresOf lower) starts calls (told .lower)
+  lower-least = rw lower-is (least-of-plans day-instance (metresOf lower))
 
-  pub upper-least : LeastHome (metresOf upper) starts calls (told .upper)
-  upper-least = rw upper-is (least-home day-instance (metresOf upper))
+  pub upper-least : LeastOfPlans (metresOf upper) starts calls (told .upper)
+  upper-least = rw upper-is (least-of-plans day-instance (metresOf upper))
 
   -- the lower floor is no higher than the upper
   pub rough-ordered : told .lower ≤ told .upper
   rough-ordered =
-      rw (lower-is, upper-is) (plan-floor-more day-instance (metres-more (day .places) lower upper (bounds-between tested .high)))
+      let figures = bounds-hold (day .places) lower upper (tested .bounds) (tested .low .counts .legs) in
+      rw (lower-is, upper-is) (plan-floor-more day-instance (metres-more (day .places) lower upper figures))
 
   -- "For every accepted table that lies between them leg by leg"
   module _ (t : Table) (table : tableRefusal (day .places) t ≡ 0) (between : Between (day .places) lower t upper) where

@@ -13,7 +13,7 @@ use Rattle.base.proofs.Lists.{getD-upTo}
 use Rattle.workfunction.specs.Least.{IsLeast}
 use Rattle.workfunction.specs.Lists.{sections}
 use Rattle.workfunction.specs.Movement.{Instance, work, floor}
-use Rattle.workfunction.specs.Plan.{follows, planCost, plans, leastPlan, stops, legCost, LeastHome, planFloor}
+use Rattle.workfunction.specs.Plan.{follows, planCost, plans, leastPlan, stops, legCost, LeastOfPlans, planFloor}
 use Rattle.workfunction.specs.Position.{Position}
 use Rattle.workfunction.proofs.Lists.{minimum-least, filter-in, in-filter, sections-in, upTo-in}
 use Rattle.workfunction.proofs.Movement.{work-least}
@@ -118,8 +118,8 @@ some-plan {n} day = let some = plan-for none day (day .started) in (some .0, som
 
 module _ {n : ℕ} {starts calls : List ℕ} (day : Instance n starts calls) where
   -- the number that computes is the least cost of a plan that ends at the starts, whatever the metres
-  pub least-home : (d : ℕ → ℕ → ℕ) → LeastHome d starts calls (planFloor d starts calls)
-  least-home d =
+  pub least-of-plans : (d : ℕ → ℕ → ℕ) → LeastOfPlans d starts calls (planFloor d starts calls)
+  least-of-plans d =
       let least = least-plan (legCost d starts calls starts) (some-plan day .1) in
       let best = least .attained in
       record {

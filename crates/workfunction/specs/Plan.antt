@@ -77,8 +77,8 @@ module _ (d : ℕ → ℕ → ℕ) (starts calls : List ℕ) where
   legCost stands p b = d (place starts calls p) (place stands calls b)
 
   -- paper 11: "the least cost of a plan that ends at the starts": a number is that, with d any metres
-  abbrev pub LeastHome : ℕ → Type 0
-  LeastHome = IsLeast (λ f. planRule (length starts) (stops starts calls) f ≡ true) (planCost (stops starts calls) (legCost starts))
+  abbrev pub LeastOfPlans : ℕ → Type 0
+  LeastOfPlans = IsLeast (λ f. planRule (length starts) (stops starts calls) f ≡ true) (planCost (stops starts calls) (legCost starts))
 
   -- the same as a number that computes
   abbrev pub planFloor : ℕ

@@ -11,7 +11,7 @@ use Rattle.dayfile.proofs.Limits.{placed-accepted}
 use Rattle.dispatch.specs.PlanFloor.{FloorTold, planFloorOf}
 use Rattle.dispatch.proofs.Promise.{plan-floor-is}
 use Rattle.rough.specs.Rough.{roughRefusal, TwoFloors, noFloors, roughOf}
-use Rattle.rough.proofs.Tested.{rough-tested}
+use Rattle.rough.proofs.tests.Laws.{rough-tested}
 use Rattle.rough.proofs.floors.Statement.{statement}
 use Rattle.rough.proofs.floors.Tie as tie
 

@@ -8,7 +8,7 @@ use Rattle.base.proofs.Numbers.{accepts, holds, asked-again, goes-on, handed-up
 use Rattle.road.specs.Table.{legsRefusal}
 use Rattle.dayfile.proofs.Limits.{CountsTested, run-tested}
 use Rattle.rough.specs.Rough.{twoCountsRefusal, roughRefusal}
-use Rattle.rough.proofs.Tested.{two-counts, places-left}
+use Rattle.rough.proofs.tests.Laws.{two-counts, places-left}
 use Rattle.rough.proofs.tests.test.Statement.{statement}
 use Rattle.rough.proofs.tests.test.Tie as tie
 

@@ -1,24 +1,17 @@
--- What the tests of a day beside two tables say: the day passes its own tests before 8 over either, and no lower figure is above its upper;
--- and that they come in the order of paper 11. Assumes nothing.
-use Prim.Native.Nat.{ℕ, _<_, _≤_, zero-le}
+-- What the tests of a day beside two tables say: the day passes its own tests before 8 over either, and no lower figure exceeds its upper; and
+-- that they come in the order of paper 11. Assumes nothing.
+use Prim.Native.Nat.{ℕ}
 use mathlib.Core.Bool.{true}
 use mathlib.Core.Path.{_≡_}
-use borrow.Author.Tests.{leb-true}
-use lib.Dec.{leb}
-use lib.ListN.{length, getD}
-use native.Mathlib.Omega.{arith}
+use lib.ListN.{length}
 use Rattle.base.specs.Numbers.{_then_}
 use Rattle.base.proofs.Numbers.{then-zero, then-assoc, first-of, unless-zero}
-use Rattle.base.proofs.Tests.{by-order, below-at}
-use Rattle.road.specs.Table.{Table, legCount, legIndex, metresOf, legsRule, runRefusal, legsRefusal}
-use Rattle.road.proofs.Order.{legs-before}
-use Rattle.road.proofs.Table.{metres-up, metres-down, metres-self, run-accepted}
+use Rattle.road.specs.Table.{Table, legCount, legsRule, runRefusal, legsRefusal}
+use Rattle.road.proofs.Table.{run-accepted}
 use Rattle.dayfile.specs.declared.Day.{Day}
 use Rattle.dayfile.specs.Day.{stopsRule, countsRefusal, stopsRefusal, dayStarts, dayRequests, placedRefusal}
 use Rattle.dayfile.proofs.Limits.{CountsTested, counts-tested, counts-accepted, Placed}
-use Rattle.rough.specs.Rough.{boundsRule, boundsRefusal, twoCountsRefusal, roughRefusal, Between}
-
--- ---- the counts
+use Rattle.rough.specs.Rough.{boundsRule, boundsRefusal, twoCountsRefusal, roughRefusal}
 
 -- the same counts with another table's length
 pub counts-with : {n u k m : ℕ} → CountsTested n u k m → (l : ℕ) → l ≡ legCount n → CountsTested n l k m
@@ -31,17 +24,14 @@ counts-with counts l legs = record {
   calls = counts .calls;
 }
 
-module _ (day : Day) (l u : ℕ) where
-  -- what they say of each table
-  pub two-counts : twoCountsRefusal day l u ≡ 0
-      → CountsTested (day .places) l (day .cranes) (day .calls) × CountsTested (day .places) u (day .cranes) (day .calls)
-  unfolding twoCountsRefusal
-  two-counts h =
-      let both = then-zero (runRefusal (day .places) l) _ h in
-      let counts = counts-tested (day .places) u (day .cranes) (day .calls) (both .1) in
-      (counts-with counts l (run-accepted (day .places) l (both .0) .1), counts)
-
--- ---- all tests
+-- what the counts say of each table
+pub two-counts : (day : Day) (l u : ℕ) → twoCountsRefusal day l u ≡ 0
+    → CountsTested (day .places) l (day .cranes) (day .calls) × CountsTested (day .places) u (day .cranes) (day .calls)
+unfolding twoCountsRefusal
+two-counts day l u h =
+    let both = then-zero (runRefusal (day .places) l) _ h in
+    let counts = counts-tested (day .places) u (day .cranes) (day .calls) (both .1) in
+    (counts-with counts l (run-accepted (day .places) l (both .0) .1), counts)
 
 -- the day's own test before 8, once the counts and the metres are tested, is that of its places
 pub places-left : (day : Day) (t : Table) → CountsTested (day .places) (length t) (day .cranes) (day .calls) → legsRule t ≡ true
@@ -49,7 +39,7 @@ pub places-left : (day : Day) (t : Table) → CountsTested (day .places) (length
 unfolding placedRefusal
 places-left day t counts legs = rw (counts-accepted (day .places) (length t) (day .cranes) (day .calls) counts, legs)
 
--- what they say together
+-- what all the tests say
 pub record RoughTested (day : Day) (lower upper : Table) : Type 0 where
   pub low : Placed day lower
   pub high : Placed day upper
@@ -80,23 +70,3 @@ module _ (day : Day) (lower upper : Table) where
       stopsRefusal (day .places) (dayRequests day))
   unfolding roughRefusal twoCountsRefusal
   rough-order = then-assoc (runRefusal (day .places) (length lower)) (countsRefusal (day .places) (length upper) (day .cranes) (day .calls)) _
-
--- ---- one table beside another
-
--- figures that are no higher leg by leg are no higher between any two places
-pub metres-more : (n : ℕ) (a b : Table) → ((i : ℕ) → i < legCount n → getD a i 0 ≤ getD b i 0) → (u v : ℕ) → u < n → v < n
-    → metresOf a u v ≤ metresOf b u v
-metres-more n a b more u v p q =
-    by-order u v (λ (l : u < v). rw (metres-up a u v l, metres-up b u v l) (more (legIndex u v) (let all = legs-before v n q in omega arith)))
-    (λ (e : u ≡ v). rw (metres-self a u v e) zero-le)
-    (λ (l : v < u). rw (metres-down a u v l, metres-down b u v l) (more (legIndex v u) (let all = legs-before u n p in omega arith)))
-
-module _ {day : Day} {lower upper : Table} (h : RoughTested day lower upper) where
-  -- the upper table lies above the lower
-  pub bounds-between : Between (day .places) lower lower upper
-  unfolding boundsRule
-  bounds-between = record {
-    low = λ i l. omega arith;
-    high = λ i l. leb-true (getD lower i 0) (getD upper i 0)
-        (below-at (λ j. leb (getD lower j 0) (getD upper j 0)) (length lower) (h .bounds) i (rw (h .low .counts .legs) l));
-  }
