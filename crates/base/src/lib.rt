@@ -1,10 +1,12 @@
 // What every layer shares: the refusals with their numbers and the answer of a test; in specs/, tests over all numbers
 // below a bound, lists that are filled or written into others, and the laws of a metric. Stands on nothing.
+#![tactic(auto)]
+
 ghost use Rattle.std.specs.Prelude.{◌≡◌};
 ghost use Rattle.base.specs.Numbers.{number_of, ◌then◌};
 
 // One case for each row of document 01's refusal table, 1 to 11, for 12 of paper 3, 13 of paper 5, 14 of paper 10 and 15 of paper 11.
-#[derive(Drop)]
+#[derive(Clone, Copy)]
 pub enum Refusal {
     // The length of a file.
     Length,
@@ -39,7 +41,7 @@ pub enum Refusal {
 }
 
 // The answer of a test: accepted, or the first refusal that applies.
-#[derive(Drop)]
+#[derive(Clone, Copy)]
 pub enum Verdict {
     Accepted,
     Refused(Refusal),

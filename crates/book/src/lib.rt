@@ -1,5 +1,7 @@
 // The book of a running day, beside its road table: limits, its test, which makes it sound, and the fresh book of a day. Stands on
 // `base`, `road`, `dayfile` and `workfunction`.
+#![tactic(auto)]
+
 mod driven;
 mod fresh;
 mod plan;
@@ -16,7 +18,7 @@ use road::Road;
 
 // A book in memory, beside its road table. Entries past the counts are ignored where a book is given, and 0 in a book
 // that is returned. Stops and followers have the same numbers: the cranes' starts or stands first, then the calls.
-#[derive(Drop)]
+#[derive(Clone, Copy)]
 pub struct Book {
     pub cranes: usize,
     pub calls: usize,
@@ -35,7 +37,7 @@ pub struct Book {
 }
 
 // What became of a day for which a book was to be opened: the fresh book, or the refusal and a book of zeros.
-#[derive(Drop)]
+#[derive(Clone, Copy)]
 pub struct Opening {
     pub verdict: Verdict,
     pub book: Book,

@@ -95,7 +95,7 @@ pub(crate) fn all() -> Group {
 }
 
 // Random days by the quoted cranes, those without a call at which two cranes had the same sum and those with one; and by others.
-#[derive(Drop)]
+#[derive(Clone, Copy)]
 pub struct Drawn {
     pub plain: Tally,
     pub tied: Tally,

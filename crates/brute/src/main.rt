@@ -4,6 +4,8 @@
 // the sheet agree; and for each group by other cranes than the quoted ones how many were tried, of how many every figure agrees, and how many
 // calls had another crane.
 // Stands on all the libraries here but `legorder`, `pairs`, `season` and `near`, and on the toolchain's `io` for writing.
+#![tactic(auto)]
+
 mod days;
 mod drives;
 mod edges;

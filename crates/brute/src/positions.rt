@@ -20,7 +20,7 @@ pub type Reached = [u64; POSITIONS];
 pub type Leasts = [u64; Day::CRANES];
 
 // How many places and cranes a day has; how many codes its positions have, and how many pairings two of them.
-#[derive(Drop)]
+#[derive(Clone, Copy)]
 pub struct Size {
     pub places: usize,
     pub cranes: usize,
@@ -183,7 +183,7 @@ pub(crate) fn serve(square: &Square, size: Size, reached: &Reached, place: u16) 
 
 // The crane that is sent: its number, its way and the work function after its move, the sum of the two, and whether another crane
 // has the same sum.
-#[derive(Drop)]
+#[derive(Clone, Copy)]
 pub struct Sent {
     pub crane: usize,
     pub metres: u64,

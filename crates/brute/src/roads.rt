@@ -17,7 +17,7 @@ pub type Square = [[u32; PLACES]; PLACES];
 pub type Legs = [u32; LEGS];
 
 // A leg: its first place and its second, which is above the first.
-#[derive(Drop)]
+#[derive(Clone, Copy)]
 pub struct Leg {
     pub first: usize,
     pub second: usize,

@@ -20,7 +20,7 @@ const ROUND: u64 = 12;
 
 // What the brute search keeps of a day: the costs of the positions reached, the cranes' starts and stands, the sum of the drives, of each
 // crane and of all, and the floor.
-#[derive(Drop)]
+#[derive(Clone, Copy)]
 pub struct Desk {
     pub reached: Reached,
     pub starts: Position,
@@ -32,7 +32,7 @@ pub struct Desk {
 
 // Both sides after some calls: the library's book and the search's desk; the crane that the search would send to the last call; whether
 // every figure agreed so far, whether two cranes had the same sum at some call, and how many calls had another crane than the quoted one.
-#[derive(Drop)]
+#[derive(Clone, Copy)]
 pub struct Sides {
     pub book: Book,
     pub desk: Desk,
@@ -44,7 +44,7 @@ pub struct Sides {
 
 // What both sides tell of a call: whether the library's net costs are the search's; the library's quote; and of the search the crane that it
 // would send, the work function after each crane and the positions reached with the call.
-#[derive(Drop)]
+#[derive(Clone, Copy)]
 pub struct Answers {
     pub netted: bool,
     pub quote: Quote,
@@ -54,7 +54,7 @@ pub struct Answers {
 }
 
 // Both sides after the calls of a day, and of each call the crane that the search would send.
-#[derive(Drop)]
+#[derive(Clone, Copy)]
 pub struct Followed {
     pub sides: Sides,
     pub sents: [Sent; CALLS],

@@ -51,7 +51,7 @@ const POWERS: [u64; ROW] = [
 ];
 
 // What the library gives as the sheet of a day: the number, the length, and the buffer after it.
-#[derive(Drop)]
+#[derive(Clone, Copy)]
 pub struct Posted {
     pub number: u8,
     pub length: usize,

@@ -9,7 +9,7 @@ use dayfile::Day;
 const TRIPLES: usize = 125;
 
 // Where the numbers of a day come from: the digits of a number, the lowest first, or a fixed sequence.
-#[derive(Drop)]
+#[derive(Clone, Copy)]
 pub struct Source {
     pub rest: u64,
     pub drawn: bool,

@@ -1,7 +1,7 @@
 // How many cases of a group were tried, and how many of them agree; the same by other cranes than the quoted ones.
 use libc::STDOUT_FILENO;
 
-#[derive(Drop)]
+#[derive(Clone, Copy)]
 pub struct Tally {
     pub tried: u64,
     pub agree: u64,
@@ -37,7 +37,7 @@ impl Tally {
 }
 
 // The same of days by other cranes, and how many of their calls had another crane than the quoted one.
-#[derive(Drop)]
+#[derive(Clone, Copy)]
 pub struct Others {
     pub days: Tally,
     pub calls: u64,
@@ -71,7 +71,7 @@ impl Others {
 }
 
 // A group of days, by the quoted cranes and by others.
-#[derive(Drop)]
+#[derive(Clone, Copy)]
 pub struct Group {
     pub quoted: Tally,
     pub others: Others,

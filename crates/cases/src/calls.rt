@@ -14,7 +14,7 @@ const WEIGHT: i64 = -Book::WEIGHT - 1;
 const METRES: u32 = 4_294_967_295;
 
 // A book grown by calls to quoted cranes, and how many of the quotes and of the commits were accepted.
-#[derive(Drop)]
+#[derive(Clone, Copy)]
 pub struct Grown {
     pub book: Book,
     pub quotes: u64,

@@ -1,5 +1,7 @@
 // Runs document 01's cases on the compiled library and prints what each gives, below a legend of the lines. Stands on all the libraries here
 // but `season`, and on the toolchain's `io` for writing.
+#![tactic(auto)]
+
 mod books;
 mod calls;
 mod days;

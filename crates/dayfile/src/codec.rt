@@ -11,7 +11,7 @@ pub(crate) const CRANE: u8 = 2;
 pub(crate) const CALL: u8 = 3;
 
 // The fields in their order; `pad` is byte 1 and `gap` bytes 6 and 7.
-#[derive(Drop)]
+#[derive(Clone, Copy)]
 pub struct Record {
     pub kind: u8,
     pub pad: u8,

@@ -1,4 +1,6 @@
 // The day and its file: limits, the tests of a day in memory, reading and writing. Stands on `base` and `road`.
+#![tactic(auto)]
+
 mod codec;
 mod legs;
 mod scan;
@@ -15,7 +17,7 @@ use road::Road;
 
 // A day in memory, beside its road table. The entries of `starts` past the number of cranes and of `requests` past the
 // number of calls are ignored where a day is given, and 0 in a day that is returned.
-#[derive(Drop)]
+#[derive(Clone, Copy)]
 pub struct Day {
     // How many places the road table has.
     pub places: usize,
@@ -29,7 +31,7 @@ pub struct Day {
 
 // What a file holds: the day and its table, or the refusal with the index of its record, and then a day and a table of zeros. The legs
 // of the day's places are the front of the array, 0 past them: `&table[..Road::legs(day.places)]` is the run.
-#[derive(Drop)]
+#[derive(Clone, Copy)]
 pub struct Reading {
     pub verdict: Verdict,
     pub index: usize,
@@ -38,7 +40,7 @@ pub struct Reading {
 }
 
 // What became of a day that was to be written: the number of bytes, or the refusal and 0.
-#[derive(Drop)]
+#[derive(Clone, Copy)]
 pub struct Written {
     pub verdict: Verdict,
     pub length: usize,

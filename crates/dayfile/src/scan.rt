@@ -12,7 +12,7 @@ use base::{Refusal, Verdict};
 use road::Road;
 
 // What has been read: the first and second place of the next leg, were one to come, and the numbers of cranes and calls.
-#[derive(Drop)]
+#[derive(Clone, Copy)]
 pub struct State {
     pub first: usize,
     pub second: usize,
@@ -21,7 +21,7 @@ pub struct State {
 }
 
 // What the records of a file give: what was read, or the refusal with the index that goes with it.
-#[derive(Drop)]
+#[derive(Clone, Copy)]
 pub struct Found {
     pub verdict: Verdict,
     pub index: usize,

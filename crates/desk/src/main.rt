@@ -1,5 +1,7 @@
 // The program for the desk: reads a day file from standard input and writes its print to standard output. A read or a write that fails is told
 // on standard error. Stands on `input` and `report`, and on the toolchain's `io` and `libc` for writing.
+#![tactic(auto)]
+
 use dayfile::Day;
 use libc::{STDERR_FILENO, STDOUT_FILENO};
 

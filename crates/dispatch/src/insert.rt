@@ -10,7 +10,7 @@ use crate::{choice, flip, legs, search, weights};
 use book::Book;
 
 // The end for which a call is taken in: the least one, or a given one.
-#[derive(Drop)]
+#[derive(Clone, Copy)]
 pub(crate) enum Pick {
     Least,
     End(usize),

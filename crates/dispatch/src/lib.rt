@@ -1,6 +1,8 @@
 // What is answered of a book and of a day: the net costs and the quote of a call, the commit of a crane, the two least costs, the served day,
 // and the least plan of a day over metres that need not keep the triangle rule.
 // Stands on `base`, `road`, `dayfile`, `workfunction` and `book`.
+#![tactic(auto)]
+
 mod call;
 mod calls;
 mod choice;
@@ -35,7 +37,7 @@ use dayfile::Day;
 
 // The net cost of each crane for a call, by its number: what the least cost rises by, or falls by, if that crane is sent; 0 past the
 // cranes. Or the refusal and zeros.
-#[derive(Drop)]
+#[derive(Clone, Copy)]
 pub struct NetCosts {
     pub verdict: Verdict,
     pub nets: [i64; Book::CRANES],
@@ -43,7 +45,7 @@ pub struct NetCosts {
 
 // The price of a call: the crane that would be sent, the metres that it would drive and the least cost after it; or the refusal
 // and zeros.
-#[derive(Drop)]
+#[derive(Clone, Copy)]
 pub struct Quote {
     pub verdict: Verdict,
     pub crane: usize,
@@ -53,7 +55,7 @@ pub struct Quote {
 
 // What became of a crane that was to be sent to a call: the least cost after it and the new book; or the refusal, 0, and the
 // book as it was given.
-#[derive(Drop)]
+#[derive(Clone, Copy)]
 pub struct Commit {
     pub verdict: Verdict,
     pub least: u64,
@@ -61,7 +63,7 @@ pub struct Commit {
 }
 
 // The two costs of a book; or the refusal and zeros.
-#[derive(Drop)]
+#[derive(Clone, Copy)]
 pub struct Costs {
     pub verdict: Verdict,
     pub least: u64,
@@ -70,7 +72,7 @@ pub struct Costs {
 
 // A day served from its fresh book: of each call the crane sent, the metres that it drives and the least cost after it; the sum
 // of the drives, the way home, and the floor. Or the refusal and zeros. Entries past the number of calls are 0.
-#[derive(Drop)]
+#[derive(Clone, Copy)]
 pub struct ServedDay {
     pub verdict: Verdict,
     pub calls: usize,
@@ -83,14 +85,14 @@ pub struct ServedDay {
 }
 
 // The least cost of all plans of a day that end at its starts; or the refusal and 0.
-#[derive(Drop)]
+#[derive(Clone, Copy)]
 pub struct PlanFloor {
     pub verdict: Verdict,
     pub floor: u64,
 }
 
 // The functions that answer. What they keep is the book, and no struct here.
-#[derive(Drop)]
+#[derive(Clone, Copy)]
 pub struct Dispatch {}
 
 impl Dispatch {

@@ -8,7 +8,7 @@ use crate::{insert, legs, plan};
 use road::Road;
 
 // A call that is served: the crane sent, the metres that it drives, the least cost after it.
-#[derive(Drop)]
+#[derive(Clone, Copy)]
 pub(crate) struct Step {
     pub crane: usize,
     pub metres: u32,

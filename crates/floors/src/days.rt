@@ -6,7 +6,7 @@ use road::Road;
 
 // What the library tells of a day: the lower and the upper floor with their number; the floor of the day served over the table in between, with
 // its number; and the number of the lower table.
-#[derive(Drop)]
+#[derive(Clone, Copy)]
 pub struct Floors {
     pub rough: u8,
     pub lower: u64,
@@ -17,7 +17,7 @@ pub struct Floors {
 }
 
 // How many days were tried; how many are right; of how many the lower and the upper floor differ; how many lower tables break the triangle rule.
-#[derive(Drop)]
+#[derive(Clone, Copy)]
 pub struct Tally {
     pub tried: u64,
     pub right: u64,

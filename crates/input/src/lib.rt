@@ -1,4 +1,6 @@
 // Reading all of standard input, for the programs. Stands on the toolchain's `io`, `libc` and `os`.
+#![tactic(auto)]
+
 ghost use Rattle.io.specs.Counts.{IsPrefixLen};
 
 use libc::STDIN_FILENO;
@@ -7,7 +9,7 @@ use libc::STDIN_FILENO;
 const TRIES: usize = 1_000_000;
 
 // What was read: how many bytes, and whether a read failed.
-#[derive(Drop)]
+#[derive(Clone, Copy)]
 pub struct Input {
     pub length: usize,
     pub failed: bool,

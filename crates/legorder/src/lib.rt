@@ -1,5 +1,7 @@
 // The pairs of places of all legs in the order of the day file, worked out. Leg i is the same pair in every road table that has it. Stands on
 // `base` and `road`.
+#![tactic(auto)]
+
 mod fill;
 
 ghost use Rattle.std.specs.Prelude.{◌≡◌};
@@ -9,14 +11,14 @@ ghost use Rattle.legorder.specs.Pairs.{pairs, columns_of};
 use road::Road;
 
 // The two places of a leg.
-#[derive(Drop)]
+#[derive(Clone, Copy)]
 pub struct Pair {
     pub first: u16,
     pub second: u16,
 }
 
 // The pairs of all legs by their index, in two columns.
-#[derive(Drop)]
+#[derive(Clone, Copy)]
 pub struct Columns {
     pub firsts: [u16; Road::LEGS],
     pub seconds: [u16; Road::LEGS],

@@ -1,5 +1,7 @@
 // Who is near a place, and which places hold a crane: of the stands of a sound book. Stands on `base`, `road`, `dayfile`,
 // `workfunction` and `book`.
+#![tactic(auto)]
+
 mod mask;
 mod metres;
 mod order;
@@ -14,7 +16,7 @@ use book::Book;
 
 // How many cranes are within a distance, whose numbers stand at the front of the lent buffer, and the nearest of all cranes; or the
 // refusal and zeros.
-#[derive(Drop)]
+#[derive(Clone, Copy)]
 pub struct Nearby {
     pub verdict: Verdict,
     pub count: usize,
@@ -22,7 +24,7 @@ pub struct Nearby {
 }
 
 // How many places hold a crane, and the lowest that holds none, which is the number of places where all do; or the refusal and zeros.
-#[derive(Drop)]
+#[derive(Clone, Copy)]
 pub struct Occupied {
     pub verdict: Verdict,
     pub held: usize,

@@ -9,6 +9,8 @@
 // where the check tells that the print is not the stored one. The two files are compared by
 //
 //     cmp crates/pairtable/stdout crates/pairs/src/table.rt
+#![tactic(auto)]
+
 mod lookup;
 mod table;
 
@@ -22,14 +24,14 @@ use legorder::{Columns, Pair};
 use road::Road;
 
 // The pair at an index; or the refusal and zeros.
-#[derive(Drop)]
+#[derive(Clone, Copy)]
 pub struct PairFound {
     pub verdict: Verdict,
     pub pair: Pair,
 }
 
 // The index of a pair; or the refusal and 0.
-#[derive(Drop)]
+#[derive(Clone, Copy)]
 pub struct IndexFound {
     pub verdict: Verdict,
     pub index: usize,

@@ -1,5 +1,7 @@
 // Prints the source of the table that `pairs` holds, src/table.rt of that crate, from the pairs that `legorder` works out. A write that fails
 // is told on standard error. Stands on `legorder`, and on the toolchain's `io` and `libc` for writing.
+#![tactic(auto)]
+
 use libc::{STDERR_FILENO, STDOUT_FILENO};
 
 fn text(bytes: &[u8]) -> bool {

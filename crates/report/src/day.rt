@@ -12,7 +12,7 @@ use dispatch::Dispatch;
 use road::Road;
 
 // What is told of a day: a line for each call and the last line, or its sheet.
-#[derive(Drop)]
+#[derive(Clone, Copy)]
 pub(crate) enum Form {
     Lines,
     Rows,

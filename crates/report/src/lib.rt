@@ -1,5 +1,7 @@
 // What the programs print: a day file read, its calls served, and a line or a row for each, or the line of a refusal. Stands on `base`,
 // `road`, `dayfile`, `workfunction`, `book`, `dispatch` and `sheet`, and on the toolchain's `io` and `bytes`.
+#![tactic(auto)]
+
 mod day;
 mod text;
 
@@ -13,7 +15,7 @@ use day::Form;
 pub const TEXT: usize = 32_768;
 
 // A print: its text stands in the first `length` bytes, and the bytes past them are 0.
-#[derive(Drop)]
+#[derive(Clone, Copy)]
 pub struct Printed {
     pub length: usize,
     pub text: [u8; TEXT],

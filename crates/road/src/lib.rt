@@ -1,5 +1,7 @@
 // The road table: its limits, its legs and metres, and its tests with the refusals 3, 4 and 8.
 // Stands on `base`.
+#![tactic(auto)]
+
 mod legs;
 mod triangles;
 
@@ -11,7 +13,7 @@ use base::{Refusal, Verdict};
 
 // The road table's limits and functions. A table is a lent run of numbers beside its number of places: the metres of the legs (0,1),
 // (0,2), (1,2), (0,3) and so on, by second place, then by first. No struct here holds it.
-#[derive(Drop)]
+#[derive(Clone, Copy)]
 pub struct Road {}
 
 impl Road {

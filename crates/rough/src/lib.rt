@@ -1,5 +1,7 @@
 // Roads known only roughly: a lower and an upper floor of a day, out of a lower and an upper figure for each leg, with refusal 15.
 // Stands on `base`, `road`, `dayfile`, `workfunction`, `book` and `dispatch`.
+#![tactic(auto)]
+
 mod bounds;
 mod figures;
 mod tests;
@@ -13,7 +15,7 @@ use dayfile::Day;
 use dispatch::Dispatch;
 
 // The lower and the upper floor of a day; or the refusal and zeros.
-#[derive(Drop)]
+#[derive(Clone, Copy)]
 pub struct RoughFloors {
     pub verdict: Verdict,
     pub lower: u64,

@@ -2,6 +2,8 @@
 // Stands on `base` and `road`.
 //
 // A book keeps no note of its table: to lend it the same legs all day, those of the date on which it was opened, is the caller's part.
+#![tactic(auto)]
+
 mod calendar;
 mod tables;
 mod windows;
@@ -13,21 +15,21 @@ ghost use Rattle.season.specs.Season.{season_refusal, legs_on};
 use base::Verdict;
 
 // A month and a day of it, in any year.
-#[derive(Drop)]
+#[derive(Clone, Copy)]
 pub struct MonthDay {
     pub month: u8,
     pub day: u8,
 }
 
 // The days of every year from the first to the last, both inside; over the year's end where the first is later than the last.
-#[derive(Drop)]
+#[derive(Clone, Copy)]
 pub struct Window {
     pub first: MonthDay,
     pub last: MonthDay,
 }
 
 // A day of the Gregorian calendar.
-#[derive(Drop)]
+#[derive(Clone, Copy)]
 pub struct Date {
     pub year: u16,
     pub month: u8,

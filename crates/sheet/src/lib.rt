@@ -1,4 +1,6 @@
 // The served day as a sheet for the wall: a row for each call. Stands on `base`, `road`, `dayfile`, `workfunction`, `book` and `dispatch`.
+#![tactic(auto)]
+
 mod row;
 mod rows;
 

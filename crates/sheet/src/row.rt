@@ -11,7 +11,7 @@ const LINE_FEED: u8 = 10;
 const ZERO: u8 = 48;
 
 // The values of a row: the call's number from 0 and its place, the crane sent, the metres that it drives and the least cost after it.
-#[derive(Drop)]
+#[derive(Clone, Copy)]
 pub struct Row {
     pub call: u64,
     pub place: u64,

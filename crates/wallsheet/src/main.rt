@@ -1,5 +1,7 @@
 // The program for the wall: reads a day file from standard input and writes the sheet of its day to standard output. A read or a write
 // that fails is told on standard error. Stands on `input` and `report`, and on the toolchain's `io` and `libc` for writing.
+#![tactic(auto)]
+
 use dayfile::Day;
 use libc::{STDERR_FILENO, STDOUT_FILENO};
 

@@ -12,8 +12,7 @@ use Rattle.base.proofs.Numbers.{goes_on, handed_up}
 use Rattle.road.specs.Table.{leg_count, legs_of, places_refusal, run_refusal}
 use Rattle.road.proofs.Order.{legs_counted}
 use Rattle.road.proofs.Table.{few_places}
-use Rattle.road.proofs.Road.test_run.Statement.{statement}
-use Rattle.road.proofs.Road.test_run.Tie as tie
+use Rattle.road.proofs.Road.test_run.Goals as goal
 
 -- where the places are accepted, the number of legs is that of the places
 module _ (placed : Verdict) (n legs : ℕ) (e : placed ≡ Accepted) (h : number_of placed ≡ places_refusal n) (told : legs ≡ legs_of n) where
@@ -28,36 +27,13 @@ module _ (placed : Verdict) (n legs : ℕ) (e : placed ≡ Accepted) (h : number
   unfolding run_refusal
   same_length l q = goes_on placed _ _ _ e h (rw (eq-eqb l (leg_count n) (q ∙ same)))
 
-test-places-requires : tie.Need-test-places-requires
-test-places-requires c κs = search rules
-
-enum_told : tie.Need-enum-told
-enum_told c = search rules
-
-enum-told-2 : tie.Need-enum-told-2
-enum-told-2 c = search rules
-
-returns : tie.Need-returns
+pub returns-in_default : goal.returns-in_default
 unfolding run_refusal
-returns c =
-    let e = c.enum-told2.given in
-    handed_up _ e.0.0 e.1 _ _ c.before.before.test-places.ensures
+returns-in_default c = handed_up _ c.in_default.field-0 c.in_default.is _ _ c.test_places-placed.ensures
 
-legs-requires : tie.Need-legs-requires
-legs-requires c κs = search rules
+pub returns-then-legs : goal.returns-then-legs
+returns-then-legs c = other_length _ _ _ c.in-Accepted.is c.test_places-placed.ensures c.legs.ensures _
+    (λ e. omega (arith, c.if-legs.true))
 
-returns-2 : tie.Need-returns-2
-returns-2 c =
-    let l = c.before.before in
-    other_length _ _ _ l.enum_told.given.1 l.before.before.test-places.ensures c.before.legs.ensures _
-    (λ e. omega (arith, c.if1.true))
-
-returns-3 : tie.Need-returns-3
-returns-3 c =
-    let l = c.before.before in
-    same_length _ _ _ l.enum_told.given.1 l.before.before.test-places.ensures c.before.legs.ensures _ c.if1.false
-
-pub test_run_spec : {M : Type 1} → statement M
-test_run_spec =
-    tie.close
-    (tie.spec test-places-requires enum_told enum-told-2 returns legs-requires returns-2 returns-3)
+pub returns : goal.returns
+returns c = same_length _ _ _ c.in-Accepted.is c.test_places-placed.ensures c.legs.ensures _ c.if-legs.false

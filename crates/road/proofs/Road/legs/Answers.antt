@@ -10,28 +10,21 @@ use native.Mathlib.Nat.{mul-le-mul}
 use native.Mathlib.Omega.{arith}
 use Rattle.road.specs.Table.{most_places, leg_count}
 use Rattle.road.proofs.Order.{legs_counted}
-use Rattle.road.proofs.Road.legs.Statement.{statement}
-use Rattle.road.proofs.Road.legs.Tie as tie
+use Rattle.road.proofs.Road.legs.Goals as goal
 
 product : (n m : ℕ) → n ≤ most_places → m ≤ most_places → Fits w64 (n * m)
 product n m h l = let most : n * m ≤ most_places * most_places = mul-le-mul h l in record { fits = omega arith }
 
-returns : tie.Need-returns
+pub returns-then-places-eq0 : goal.returns-then-places-eq0
 unfolding leg_count
-returns c = rw c.if1.true
+returns-then-places-eq0 c = rw c.if-places-eq0.true
 
-sub-result : tie.Need-overflow-sub-result
-sub-result c = search rules
+pub overflow_mul-result : goal.overflow_mul-result
+overflow_mul-result c = product _ _ (omega (arith, c.if-places-le-PLACES.true)) (omega (arith, c.if-places-le-PLACES.true))
 
-mul-result : tie.Need-overflow-mul-result
-mul-result c = product _ _ (omega (arith, c.if2.true)) (omega (arith, c.if2.true))
-
-returns-2 : tie.Need-returns-2
+pub returns-then-places-le-PLACES : goal.returns-then-places-le-PLACES
 unfolding leg_count
-returns-2 c = sym (legs_counted c.before.before.args.places (omega (arith, c.if2.true)))
+returns-then-places-le-PLACES c = sym (legs_counted c.args.places (omega (arith, c.if-places-le-PLACES.true)))
 
-returns-3 : tie.Need-returns-3
-returns-3 c = rw (lt-leb _ most_places c.if2.false)
-
-pub legs_spec : {M : Type 1} → statement M
-legs_spec = tie.close (tie.spec returns sub-result mul-result returns-2 returns-3)
+pub returns : goal.returns
+returns c = rw (lt-leb _ most_places c.if-places-le-PLACES.false)

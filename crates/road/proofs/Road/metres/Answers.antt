@@ -8,8 +8,7 @@ use native.Mathlib.Nat.{le_antisymm}
 use native.Mathlib.Omega.{arith}
 use Rattle.road.specs.Table.{Table, most_places, metres_of, entry}
 use Rattle.road.proofs.Table.{entry_in, entry_past, entry_both, metres_self, metres_both}
-use Rattle.road.proofs.Road.metres.Statement.{statement}
-use Rattle.road.proofs.Road.metres.Tie as tie
+use Rattle.road.proofs.Road.metres.Goals as goal
 
 -- a self-leg, whatever the place
 self : (t : Table) (u v : ℕ) → u ≡ v → 0 ≡ entry (metres_of t) u v
@@ -19,20 +18,11 @@ self t u v e = either (dec_lt v most_places)
     either (yes l) = sym (entry_in (metres_of t) u v (omega arith) l ∙ metres_self t u v e)
     either (no n) = sym (entry_past (metres_of t) u v (omega arith))
 
-metres-requires : tie.Need-metres-requires
-metres-requires c κs = search rules
+pub returns-then-from-to : goal.returns-then-from-to
+returns-then-from-to c = c.metres.ensures
 
-returns : tie.Need-returns
-returns c = c.metres.ensures
+pub returns-then-to-from : goal.returns-then-to-from
+returns-then-to-from c = c.metres-then-to-from.ensures ∙ entry_both _ _ _ (metres_both _ _ _)
 
-metres-requires-2 : tie.Need-metres-requires-2
-metres-requires-2 c κs = search rules
-
-returns-2 : tie.Need-returns-2
-returns-2 c = c.metres2.ensures ∙ entry_both _ _ _ (metres_both _ _ _)
-
-returns-3 : tie.Need-returns-3
-returns-3 c = self _ _ _ (le_antisymm c.if2.false c.before.if1.false)
-
-pub metres_spec : {M : Type 1} → statement M
-metres_spec = tie.close (tie.spec metres-requires returns metres-requires-2 returns-2 returns-3)
+pub returns : goal.returns
+returns c = self _ _ _ (le_antisymm c.if-to-from.false c.if-from-to.false)

@@ -1,0 +1,20 @@
+-- `road::legs::test` meets its contract: the loop passes the legs whose metres are within the limit.
+-- Assumes nothing.
+use Prim.Native.Nat.{ℕ, ◌-◌}
+use mathlib.Core.Bool.{Bool}
+use borrow.Author.Rules.{rules}
+use lib.ListN.{length, get_or}
+use Rattle.base.proofs.Numbers.{turns, stops_below}
+use Rattle.base.proofs.Tests.{Passed, begun, ended}
+use Rattle.road.specs.Table.{Table, metres_rule}
+use Rattle.road.proofs.legs.test.Given as goal
+
+-- what the loop tests of each leg
+abbrev pub rule : Table → ℕ → Bool
+rule table = λ i. metres_rule (get_or table i 0)
+
+abbrev pub invariant-loop-i : goal.invariant-loop-i
+invariant-loop-i l = Passed (length l.table) (rule l.table) l.i
+
+abbrev pub decreases-loop-i : goal.decreases-loop-i
+decreases-loop-i l = length l.table - l.i

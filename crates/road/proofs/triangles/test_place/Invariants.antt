@@ -1,0 +1,15 @@
+-- `road::triangles::test_place` meets its contract: the loop passes the places v that keep the rule with w and each place before v.
+-- Assumes nothing.
+use Prim.Native.Nat.{◌-◌}
+use borrow.Author.Rules.{rules}
+use Rattle.base.proofs.Numbers.{turns, stops_below}
+use Rattle.base.proofs.Tests.{Passed, begun, ended}
+use Rattle.road.specs.Table.{metres_of}
+use Rattle.road.specs.Triangles.{pair_rule}
+use Rattle.road.proofs.triangles.test_place.Given as goal
+
+abbrev pub invariant-loop-v : goal.invariant-loop-v
+invariant-loop-v l = Passed l.w (pair_rule (metres_of l.table) l.w) l.v
+
+abbrev pub decreases-loop-v : goal.decreases-loop-v
+decreases-loop-v l = l.w - l.v
