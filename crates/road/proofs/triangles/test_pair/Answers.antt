@@ -41,7 +41,7 @@ parts v w near far long lt below fits e f =
       within = below;
     }
 
-held : (c.PLACE_After-legs-far : After-legs-far) → Parts c.args.v c.args.w c.legs-near.result c.legs-far.result (length c.args.table.now)
+held : (c : After-legs-far) → Parts c.args.v c.args.w c.legs-near.result c.legs-far.result (length c.args.table.now)
 held c =
     parts c.args.v c.args.w _ _ _ c.requires.0 c.requires.1.0 c.requires.1.1 c.legs-near.ensures c.legs-far.ensures
 
@@ -80,11 +80,17 @@ overflow_add-near c = let h = held (goal.at.overflow_add-near c).After-legs-far 
 pub offset_bounds-table-near : goal.offset_bounds-table-near
 offset_bounds-table-near c = let h = held (goal.at.offset_bounds-table-near c).After-legs-far in omega arith
 
+pub slice_bounds-rows_keep-end : goal.slice_bounds-rows_keep-end
+slice_bounds-rows_keep-end c = let h = held (goal.at.slice_bounds-rows_keep-end c).After-legs-far in omega arith
+
 pub overflow_add-far : goal.overflow_add-far
 overflow_add-far c = let h = held (goal.at.overflow_add-far c).After-legs-far in omega arith
 
 pub offset_bounds-table-far-2 : goal.offset_bounds-table-far-2
 offset_bounds-table-far-2 c = let h = held (goal.at.offset_bounds-table-far-2 c).After-legs-far in omega arith
+
+pub slice_bounds-rows_keep-end-2 : goal.slice_bounds-rows_keep-end-2
+slice_bounds-rows_keep-end-2 c = let h = held (goal.at.slice_bounds-rows_keep-end-2 c).After-legs-far in omega arith
 
 pub rows_keep-requires : goal.rows_keep-requires
 rows_keep-requires c = let h = held (goal.at.rows_keep-requires c).After-legs-far in
