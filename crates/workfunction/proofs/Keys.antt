@@ -49,11 +49,13 @@ head_in [] m = absurd (Memᴰ.not-nil m)
 head_in (b ∷ l) m = Memᴰ.head refl
 
 above : {a b : ℕ} {l : List ℕ} → Ascends b l → Memᴰ a l → b ≤ a
+above {a = a} (none {b = b}) m = elim m [ ]
 above (next h more) (Memᴰ.head e) = rw e h
 above (next h more) (Memᴰ.tail m) = let rest = above more m in omega arith
 
 head_lowest : {a b : ℕ} {l : List ℕ} → Ascends b l → Memᴰ a l → head_d l 0 ≤ a
 unfolding head_d
+head_lowest {a = a} {b = b} none m = elim m [ ]
 head_lowest (next h more) (Memᴰ.head e) = rw e (le_refl _)
 head_lowest (next h more) (Memᴰ.tail m) = let rest = above more m in omega arith
 

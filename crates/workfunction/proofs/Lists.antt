@@ -128,10 +128,10 @@ module _ {A : Type 0} where
   pub in_sections : {t : List A} (ls : List (List A)) → Memᴰ t (sections ls) → Forall₂ (λ a l. Memᴰ a l) t ls
   unfolding sections
   in_sections [] h = ⊎_elim (λ e. rw e Forall₂.nil) (λ m. absurd (Memᴰ.not-nil m)) (Memᴰ.cases_cons h)
-  in_sections (l ∷ ls) h =
+  in_sections {t = t} (l ∷ ls) h =
       let out = in_flat_map (λ a. map (λ t. a ∷ t) (sections ls)) l h in
       let rest = Memᴰ.of_map (λ t. out.0 ∷ t) (sections ls) out.2 in
-      subst (λ u. Forall₂ (λ a (l : List A). Memᴰ a l) u (l ∷ ls)) rest.2 (Forall₂.cons out.1 (in_sections ls rest.1))
+      subst (λ u. Forall₂ (λ a (l : List A). Memᴰ a l) u (l ∷ ls)) rest.2 (Forall₂.cons out.1 (in_sections {t = rest.0} ls rest.1))
 
 -- permutations has just the orders of a list
 in_insertions : (a : ℕ) (l : List ℕ) {t : List ℕ} → Memᴰ t (insertions a l) → Permᴰ (a ∷ l) t

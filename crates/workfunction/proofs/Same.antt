@@ -40,7 +40,7 @@ module _ {n : ℕ} {d e : ℕ → ℕ → ℕ} (same : (u v : ℕ) → u < n →
       (λ X m. pairing-same d e A X (λ u v p q. same u v (a.placed p) ((position_order (in_permutations B m) b).placed q)))
 
   -- what a movement costs
-  pub cost-same : {k l m : ℕ} {calls A C : List ℕ} {M : List (List ℕ)} → Position n k A → Position n l C → Movement n m calls M
+  pub cost-same : {m k l : ℕ} {calls A C : List ℕ} {M : List (List ℕ)} → Position n k A → Position n l C → Movement n m calls M
       → cost d A M C ≡ cost e A M C
   unfolding cost
   cost-same a c Forall₂.nil = distance-same a c

@@ -1,0 +1,22 @@
+-- `dayfile::Day::test_stops` meets its contract: the loop passes the stops whose place is below the number of places.
+-- Assumes nothing.
+use Prim.Native.Nat.{ℕ, ◌-◌}
+use mathlib.Core.Bool.{Bool}
+use mathlib.Core.List.{List}
+use borrow.Author.Rules.{rules}
+use borrow.Author.Tests.{lt-ltb, le-ltb}
+use lib.Dec.{ltb}
+use lib.ListN.{length, get_or}
+use native.Mathlib.Omega.{arith}
+use Rattle.base.proofs.Tests.{Passed, begun, turned, ended, below_fails}
+use Rattle.dayfile.proofs.Day.test_stops.Given as goal
+
+-- what the loop tests of each stop
+abbrev pub rule : ℕ → List ℕ → ℕ → Bool
+rule places stops i = ltb (get_or stops i 0) places
+
+abbrev pub invariant-loop-i : goal.invariant-loop-i
+invariant-loop-i l = Passed (length l.stops) (rule l.places l.stops) l.i
+
+abbrev pub decreases-loop-i : goal.decreases-loop-i
+decreases-loop-i l = length l.stops - l.i

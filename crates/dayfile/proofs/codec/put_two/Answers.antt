@@ -1,0 +1,13 @@
+-- `dayfile::codec::put_two` meets its contract: the stores, one after another, are the number's bytes written from `at`.
+-- Assumes nothing.
+use borrow.Author.Rules.{rules}
+use lib.ListN.{length-set}
+use native.Mathlib.Omega.{arith}
+use Rattle.dayfile.proofs.codec.Laws.{stored}
+use Rattle.dayfile.proofs.codec.put_two.Goals as goal
+
+pub bounds-out-at-2 : goal.bounds-out-at-2
+bounds-out-at-2 c = simp length-set (omega arith)
+
+pub returns : goal.returns
+returns c = stored _ _ c.args.out.now c.args.at c.requires
