@@ -33,14 +33,21 @@ read_all c =
     sym (ap (λ (v : Verdict). refuse_at c.scan-found.result.index (number_of v) (counted c.scan-found.result.state)) c.in-Accepted-verdict.is) ∙ c.scan-found.ensures
 
 run : (c : In-Accepted-verdict) → Run start (records c.args.bytes.now) c.scan-found.result.state
-run c = scanned_run _ _ (read_all c.PLACE_In-Accepted-verdict)
+run c = scanned_run _ _ (read_all c)
 
 kept : (c : In-Accepted-verdict) → Progress c.scan-found.result.state (length c.args.bytes.now / 12)
-kept c = progress_read _ _ (run c.PLACE_In-Accepted-verdict)
+kept c = progress_read _ _ (run c)
 
 -- the run of the places read is the front of the table
 legs : (c : After-legs-legs) → c.legs-legs.result ≡ leg_count c.scan-found.result.state.second
-legs c = c.legs-legs.ensures ∙ legs_counted _ (kept c.PLACE_In-Accepted-verdict).places
+legs c = 
+    let read_all_here : counted c.scan-found.result.state ≡ scan 0 start (records c.args.bytes.now) = sym (ap (λ (v : Verdict). refuse_at c.scan-found.result.index (number_of v) (counted c.scan-found.result.state)) c.in-Accepted-verdict.is) ∙ c.scan-found.ensures
+    in
+    let run_here : Run start (records c.args.bytes.now) c.scan-found.result.state = scanned_run _ _ (read_all_here)
+    in
+    let kept_here : Progress c.scan-found.result.state (length c.args.bytes.now / 12) = progress_read _ _ (run_here)
+    in
+    c.legs-legs.ensures ∙ legs_counted _ (kept_here).places
 
 ways_asked : (n l : ℕ) (array : List ℕ) (rs : List Record) (number : ℕ) → 1 ≤ n → n ≤ most_places → l ≡ leg_count n → array ≡ table_of n rs
     → number ≡ (run_refusal n (length (take l array)) then triangle_refusal n (take l array)) → number ≡ triangle_refusal n (read_run n rs)
@@ -50,8 +57,17 @@ ways_asked n l array rs number least most e f told =
 -- 3 does not apply to the run of the places read, so the test of the ways between them decides
 ways : (c : After-test_triangles-ways) → number_of c.test_triangles-ways.result ≡ triangle_refusal c.scan-found.result.state.second (read_run c.scan-found.result.state.second (records c.args.bytes.now))
 ways c =
-    let k = kept c.PLACE_In-Accepted-verdict in
-    ways_asked _ _ _ _ _ (omega arith) k.places (legs c.PLACE_After-legs-legs) c.table-table.ensures c.test_triangles-ways.ensures
+    
+    let read_all_here : counted c.scan-found.result.state ≡ scan 0 start (records c.args.bytes.now) = sym (ap (λ (v : Verdict). refuse_at c.scan-found.result.index (number_of v) (counted c.scan-found.result.state)) c.in-Accepted-verdict.is) ∙ c.scan-found.ensures
+    in
+    let run_here : Run start (records c.args.bytes.now) c.scan-found.result.state = scanned_run _ _ (read_all_here)
+    in
+    let kept_here : Progress c.scan-found.result.state (length c.args.bytes.now / 12) = progress_read _ _ (run_here)
+    in
+    let legs_here : c.legs-legs.result ≡ leg_count c.scan-found.result.state.second = c.legs-legs.ensures ∙ legs_counted _ (kept_here).places
+    in
+    let k = kept_here in
+    ways_asked _ _ _ _ _ (omega arith) k.places (legs_here) c.table-table.ensures c.test_triangles-ways.ensures
 
 pub returns-in_default : goal.returns-in_default
 returns-in_default c = c.refused.ensures ∙ length_refused _ _ c.test_length-long.ensures (refused_number _ c.in_default.field-0 c.in_default.is)
@@ -70,7 +86,7 @@ pub slice_bounds-table-end : goal.slice_bounds-table-end
 slice_bounds-table-end c = let h = leg_count_most _ (kept (goal.at.slice_bounds-table-end c).In-Accepted-verdict).places in let e = legs (goal.at.slice_bounds-table-end c).After-legs-legs in search rules
 
 pub slice_bounds-test_triangles-end : goal.slice_bounds-test_triangles-end
-slice_bounds-test_triangles-end c = sym (length-take-le _ _ (array-share-prefix-table (goal.at.slice_bounds-test_triangles-end c).After-legs-legs))
+slice_bounds-test_triangles-end c = sym (length-take-le _ _ ((let h = leg_count_most _ (kept (goal.at.slice_bounds-test_triangles-end c).In-Accepted-verdict).places in let e = legs (goal.at.slice_bounds-test_triangles-end c).After-legs-legs in search rules)))
 
 pub returns-in_default-ways : goal.returns-in_default-ways
 returns-in_default-ways c = c.refused-in_default-ways.ensures

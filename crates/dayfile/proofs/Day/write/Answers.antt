@@ -20,20 +20,25 @@ tested : (c : In-Accepted) → day_refusal c.args.self c.args.table.now ≡ 0
 tested c = accepts _ _ c.in-Accepted.is c.test-tested.ensures
 
 counts : (c : In-Accepted) → CountsTested c.args.self.places (length c.args.table.now) c.args.self.cranes c.args.self.calls
-counts c = (day-tested _ _ (tested c.PLACE_In-Accepted)).counts
+counts c = (day-tested _ _ (tested c)).counts
 
 legs : (c : In-Accepted) → leg_count c.args.self.places ≤ most_legs
-legs c = leg_count_most _ (counts c.PLACE_In-Accepted).places
+legs c = leg_count_most _ (counts c).places
 
 arrays : (c : In-Accepted) → DayArrays c.args.self
 arrays c = record { starts = search rules; requests = search rules }
 
 long : (c : In-Accepted) → length (day_bytes c.args.self (metres_of c.args.table.now)) ≡ 12 * (leg_count c.args.self.places + c.args.self.cranes + c.args.self.calls)
-long c = length-day c.args.self c.args.table.now (length-starts _ (arrays c.PLACE_In-Accepted) (counts c.PLACE_In-Accepted).cranes) (length_requests _ (arrays c.PLACE_In-Accepted) (counts c.PLACE_In-Accepted).calls)
+long c = length-day c.args.self c.args.table.now (length-starts _ (arrays c) (counts c).cranes) (length_requests _ (arrays c) (counts c).calls)
 
 -- the records of the legs
 counted : (c : After-legs) → c.legs.result ≡ leg_count c.args.self.places
-counted c = c.legs.ensures ∙ legs_counted _ (counts c.PLACE_In-Accepted).places
+counted c = 
+    let tested_here : day_refusal c.args.self c.args.table.now ≡ 0 = accepts _ _ c.in-Accepted.is c.test-tested.ensures
+    in
+    let counts_here : CountsTested c.args.self.places (length c.args.table.now) c.args.self.cranes c.args.self.calls = (day-tested _ _ (tested_here)).counts
+    in
+    c.legs.ensures ∙ legs_counted _ (counts_here).places
 
 pub returns-in_default : goal.returns-in_default
 returns-in_default c = output_refused _ _ _ _ c.test-tested.ensures (refused_number _ c.in_default.field-0 c.in_default.is)

@@ -14,7 +14,7 @@ use Rattle.dayfile.proofs.codec.put.Goals.{Start}
 stored_two : (c : Start) → List ℕ
 stored_two c = set (set c.args.out.now c.args.at c.args.r.kind) (c.args.at + 1) c.args.r.pad
 
-as_long : (c : Start) → length (stored_two c.PLACE_Start) ≡ length c.args.out.now
+as_long : (c : Start) → length (stored_two c) ≡ length c.args.out.now
 unfolding stored_two
 as_long c = simp length-set
 

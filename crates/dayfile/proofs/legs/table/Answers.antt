@@ -26,7 +26,7 @@ counted : (c : After-legs-legs) → c.legs-legs.result ≡ leg_count c.args.plac
 counted c = c.legs-legs.ensures ∙ legs_counted _ c.requires.0
 
 few : (c : After-legs-legs) → c.legs-legs.result ≤ most_legs
-few c = rw (counted c.PLACE_After-legs-legs) (leg_count_most _ c.requires.0)
+few c = rw (counted c) (leg_count_most _ c.requires.0)
 
 pub loop-i-init : goal.loop-i-init
 loop-i-init c = fill_begun _ _ _

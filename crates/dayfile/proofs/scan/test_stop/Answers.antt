@@ -15,8 +15,8 @@ returns-then-places-place c = rw (eq-eqb _ 0 c.if-s-ne0.false, le-ltb _ _ c.if-p
 
 pub returns-then-not-rule : goal.returns-then-not-rule
 unfolding stop_refusal
-returns-then-not-rule c = rw (eq-eqb _ 0 c.if-s-ne0.false, lt-ltb _ _ c.if-places-place.false, not-true c.args.rule c.if-not-rule.true)
+returns-then-not-rule c = rw (eq-eqb _ 0 c.if-s-ne0.false, lt-ltb _ _ c.if-places-place.false, c.if-not-rule.true)
 
 pub returns : goal.returns
 unfolding stop_refusal
-returns c = rw (eq-eqb _ 0 c.if-s-ne0.false, lt-ltb _ _ c.if-places-place.false, not-false c.args.rule c.if-not-rule.false)
+returns c = rw (eq-eqb _ 0 c.if-s-ne0.false, lt-ltb _ _ c.if-places-place.false, c.if-not-rule.false)

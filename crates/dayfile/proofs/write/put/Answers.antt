@@ -16,10 +16,10 @@ arrays : (c : After-shared_slice_known-1) → DayArrays c.args.day
 arrays c = record { starts = search rules; requests = search rules }
 
 cranes : (c : After-shared_slice_known-1) → length (day_starts c.args.day) ≡ c.args.day.cranes
-cranes c = length-starts _ (arrays c.PLACE_After-shared_slice_known-1) c.requires.cranes
+cranes c = length-starts _ (arrays c) c.requires.cranes
 
 calls : (c : After-shared_slice_known-1) → length (day_requests c.args.day) ≡ c.args.day.calls
-calls c = length_requests _ (arrays c.PLACE_After-shared_slice_known-1) c.requires.calls
+calls c = length_requests _ (arrays c) c.requires.calls
 
 -- the records before the cranes
 counted : (c : After-legs-legs) → c.legs-legs.result ≡ leg_count c.args.day.places
