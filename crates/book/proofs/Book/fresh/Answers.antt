@@ -10,8 +10,8 @@ use Rattle.dayfile.specs.Day.{day_refusal}
 use Rattle.dayfile.proofs.Limits.{day-tested}
 use Rattle.book.specs.declared.Book.{Book}
 use Rattle.book.specs.Book.{fresh_book, empty_book, Opened, fresh_of}
-use Rattle.book.proofs.Book.fresh.Statement.{statement}
-use Rattle.book.proofs.Book.fresh.Tie as tie
+use Rattle.book.proofs.Book.fresh.Goals as goal
+use Rattle.book.proofs.Book.fresh.Goals.{In-Accepted}
 
 refused : (day : Day) (t : Table) (n : ℕ) (book : Book) → n ≡ day_refusal day t → (n ≡ 0 → ⊥) → book ≡ empty_book
     → ◌≡◌ {A = Opened} (record { number = n; book = book }) (fresh_of day t)
@@ -24,33 +24,14 @@ unfolding fresh_of
 opened day t book e q = rw (e, q)
 
 -- what the test of the day tells once it accepted
-tested : (c : tie.After-enum-told) → let a = c.before.before.before.before.args in day_refusal a.day a.table.now ≡ 0
-tested c = accepts _ _ c.enum_told.given.1 c.before.before.test.ensures
+tested : (c : In-Accepted) → day_refusal c.args.day c.args.table.now ≡ 0
+tested c = accepts _ _ c.in-Accepted.is c.test-tested.ensures
 
-test-requires : tie.Need-test-requires
-test-requires c κs = search rules
+pub returns-in_default : goal.returns-in_default
+returns-in_default c = refused _ _ _ _ c.test-tested.ensures (refused_number _ c.in_default.field-0 c.in_default.is) c.none.ensures
 
-enum_told : tie.Need-enum-told
-enum_told c = search rules
+pub book-requires : goal.book-requires
+book-requires c = (day-tested _ _ (tested (goal.at.book-requires c).In-Accepted)).counts.cranes
 
-enum-told-2 : tie.Need-enum-told-2
-enum-told-2 c = search rules
-
-none-requires : tie.Need-none-requires
-none-requires c κs = search rules
-
-returns : tie.Need-returns
-returns c =
-    let t = c.before in
-    let e = t.enum-told2.given in
-    refused _ _ _ _ t.before.before.test.ensures (refused_number _ e.0.0 e.1) c.none.ensures
-
-book-requires : tie.Need-book-requires
-book-requires c κs = (day-tested _ _ (tested c.before)).counts.cranes
-
-returns-2 : tie.Need-returns-2
-returns-2 c = opened _ _ _ (tested c.before.before) c.book.ensures
-
-pub fresh_spec : {M : Type 1} → statement M
-fresh_spec =
-    tie.close (tie.spec test-requires enum_told enum-told-2 none-requires returns book-requires returns-2)
+pub returns : goal.returns
+returns c = opened _ _ _ (tested (goal.at.returns c).In-Accepted) c.book.ensures
