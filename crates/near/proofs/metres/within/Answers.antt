@@ -17,7 +17,7 @@ loop-s-init c = count_begun _ _
 
 pub loop-s-preserved : goal.loop-s-preserved
 loop-s-preserved c = let m = get_or c.args.metres.now c.loop-s.s 0 in
-    elim c.if-metres-s.branch [ then-metres-s w ↦ one_more _ _ c.loop-s.count c.loop-s.s _ c.loop-s.invariant c.loop-s-test.true (le-leb m c.args.distance (omega (arith, w.if-metres-s.true))) w.1 | else-metres-s w ↦ no_more _ _ c.loop-s.count c.loop-s.s _ c.loop-s.invariant c.loop-s-test.true (lt-leb m c.args.distance (omega (arith, w.if-metres-s.false))) w.1 ]
+    elim c.if-metres-s.branch [ then-metres-s w ↦ one_more _ _ c.loop-s.count c.loop-s.s _ c.loop-s.invariant c.loop-s-test.true (le-leb m c.args.distance (omega (arith, w.if-metres-s.true))) w.count-is | else-metres-s w ↦ no_more _ _ c.loop-s.count c.loop-s.s _ c.loop-s.invariant c.loop-s-test.true (lt-leb m c.args.distance (omega (arith, w.if-metres-s.false))) w.count-is ]
 
 pub returns : goal.returns
 unfolding count

@@ -12,7 +12,7 @@ use Rattle.near.specs.Count.{count}
 use Rattle.near.proofs.metres.within.Given as goal
 
 abbrev pub invariant-loop-s : goal.invariant-loop-s
-invariant-loop-s l = Counted (length l.metres) (λ l.s. leb (get_or l.metres l.s 0) l.distance) l.count l.s
+invariant-loop-s l = Counted (length l.metres) (λ s. leb (get_or l.metres s 0) l.distance) l.count l.s
 
 abbrev pub decreases-loop-s : goal.decreases-loop-s
 decreases-loop-s l = length l.metres - l.s
