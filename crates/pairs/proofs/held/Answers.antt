@@ -3,12 +3,8 @@
 use mathlib.Core.Path.{refl}
 use Rattle.base.specs.Lists.{up_to}
 use Rattle.road.specs.Table.{in_order}
-use Rattle.pairs.proofs.held.Statement.{statement}
-use Rattle.pairs.proofs.held.Tie as tie
+use Rattle.pairs.proofs.held.Goals as goal
 
-returns : tie.Need-returns
+pub returns : goal.returns
 unfolding in_order up_to
 returns c = refl
-
-pub held_spec : {M : Type 1} → statement M
-held_spec = tie.close (tie.spec returns)
