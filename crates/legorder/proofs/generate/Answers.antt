@@ -15,14 +15,8 @@ use Rattle.road.proofs.Order.{no_legs, all_legs, legs_before, leg_count_more, in
 use Rattle.legorder.specs.declared.Columns.{Columns}
 use Rattle.legorder.specs.declared.Pair.{Pair}
 use Rattle.legorder.specs.Pairs.{leg_pair, pairs, columns_of}
-use Rattle.legorder.proofs.generate.Statement.{statement}
-use Rattle.legorder.proofs.generate.Tie as tie
-
--- a column that begins with what f has for each leg to the places below v
-record Begins (f : ℕ → ℕ → ℕ) (now : List ℕ) (v : ℕ) : Type 0 where
-  most : v ≤ most_places
-  long : length now ≡ most_legs
-  front : take (leg_count v) now ≡ in_order f v
+use Rattle.legorder.proofs.generate.Invariants.{Begins}
+use Rattle.legorder.proofs.generate.Goals as goal
 
 module _ (f : ℕ → ℕ → ℕ) where
   begun : (now : List ℕ) → length now ≡ most_legs → Begins f now 0
@@ -58,56 +52,14 @@ columns : (firsts seconds : List ℕ) → firsts ≡ in_order (λ u w. u) most_p
 columns firsts seconds e g =
     rw (e, g, map-in_order (λ (p : Pair). p.first) leg_pair most_places, map-in_order (λ (p : Pair). p.second) leg_pair most_places)
 
-abbrev invariant-loop : tie.invariant-loop
-invariant-loop firsts₀ seconds₀ v₀ firsts seconds v = Begins (λ u w. u) firsts v × Begins (λ u w. w) seconds v
+pub loop-v-init : goal.loop-v-init
+loop-v-init c = (begun _ _ refl, begun _ _ refl)
 
-abbrev decreases-loop : tie.decreases-loop
-decreases-loop firsts₀ seconds₀ v₀ firsts seconds v = most_places - v
+pub legs_to-requires : goal.legs_to-requires
+legs_to-requires c = (c.loop-v-test.true, (fits _ _ _ c.loop-v.invariant.0 c.loop-v-test.true, fits _ _ _ c.loop-v.invariant.1 c.loop-v-test.true))
 
-loop-holds : tie.Need-loop-init invariant-loop decreases-loop
-loop-holds c = (begun _ _ refl, begun _ _ refl)
+pub loop-v-preserved : goal.loop-v-preserved
+loop-v-preserved c = (turned _ _ _ _ c.loop-v.invariant.0 c.loop-v-test.true c.legs_to.ensures.0, turned _ _ _ _ c.loop-v.invariant.1 c.loop-v-test.true c.legs_to.ensures.1)
 
-slice-aggregate-legs-to : tie.Need-slice-aggregate-legs-to invariant-loop decreases-loop
-slice-aggregate-legs-to c = search rules
-
-slice-aggregate-legs-to-2 : tie.Need-slice-aggregate-legs-to-2 invariant-loop decreases-loop
-slice-aggregate-legs-to-2 c = search rules
-
-legs-to-requires : tie.Need-legs-to-requires invariant-loop decreases-loop
-legs-to-requires c κs =
-    let l = c.before.before.before.loop in
-    let lt = c.before.before.loop-test.true in
-    (lt, (fits _ _ _ l.invariant.0 lt, fits _ _ _ l.invariant.1 lt))
-
-add-v : tie.Need-overflow-add-v invariant-loop decreases-loop
-add-v c = search rules
-
-loop-less : tie.Need-loop-smaller invariant-loop decreases-loop
-loop-less c = search rules
-
-loop-again : tie.Need-loop-preserved invariant-loop decreases-loop
-loop-again c =
-    let told = c.before.before.legs-to.ensures in
-    let t = c.before.before.before.before.before in
-    let l = t.before.loop in
-    (turned _ _ _ _ l.invariant.0 t.loop-test.true told.0, turned _ _ _ _ l.invariant.1 t.loop-test.true told.1)
-
-returns : tie.Need-returns invariant-loop decreases-loop
-returns c =
-    let l = c.before.loop in
-    columns _ _ (ended _ _ _ l.invariant.0 c.loop-test.false) (ended _ _ _ l.invariant.1 c.loop-test.false)
-
-pub generate_spec : {M : Type 1} → statement M
-generate_spec =
-    tie.close
-    (tie.spec
-    invariant-loop
-    decreases-loop
-    loop-holds
-    slice-aggregate-legs-to
-    slice-aggregate-legs-to-2
-    legs-to-requires
-    add-v
-    loop-less
-    loop-again
-    returns)
+pub returns : goal.returns
+returns c = columns _ _ (ended _ _ _ c.loop-v.invariant.0 c.loop-v-test.false) (ended _ _ _ c.loop-v.invariant.1 c.loop-v-test.false)
