@@ -3,3 +3,4 @@ pub mod Tests
 pub mod Metric
 pub mod Lists
 pub mod Decimal
+pub mod Counts

@@ -3,7 +3,7 @@
 // served day. Prints what the program tells of document 01's days; for each group how many days were tried and of how many every figure and
 // the sheet agree; and for each group by other cranes than the quoted ones how many were tried, of how many every figure agrees, and how many
 // calls had another crane.
-// Stands on all the libraries here but `legorder`, `pairs`, `season` and `near`, and on the toolchain's `io` for writing.
+// Stands on all the libraries here but `legorder`, `pairs`, `season` and `near`, and on std for writing.
 #![tactic(auto)]
 
 mod days;
@@ -22,21 +22,23 @@ mod tally;
 use tally::Group;
 
 // A group's two lines.
-fn print(group: Group, quoted: &[u8], others: &[u8]) {
+fn print(rt: &impl Print, group: Group, quoted: &[u8], others: &[u8]) {
     let first = group.quoted;
-    first.print(quoted);
+    first.print(rt, quoted);
     let second = group.others;
-    second.print(others);
+    second.print(rt, others);
 }
 
 // Document 01's days, and every small day.
-fn figures() {
+fn figures(rt: &impl Print) {
     print(
-        edges::all(),
+        rt,
+        edges::all(rt),
         b"edges and wrong turns",
         b"edges by other cranes",
     );
     print(
+        rt,
         days::all(),
         b"every small day",
         b"small days by other cranes",
@@ -44,29 +46,30 @@ fn figures() {
 }
 
 // Random days.
-fn random() {
+fn random(rt: &impl Print) {
     let random = days::random();
     let plain = random.plain;
-    plain.print(b"random days without equal sums");
+    plain.print(rt, b"random days without equal sums");
     let tied = random.tied;
-    tied.print(b"random days with equal sums");
+    tied.print(rt, b"random days with equal sums");
     let others = random.others;
-    others.print(b"random days by other cranes");
+    others.print(rt, b"random days by other cranes");
 }
 
 // Random days whose book comes back with other weights, and with other entries past the counts.
-fn changed() {
+fn changed(rt: &impl Print) {
     print(
+        rt,
         restored::all(),
         b"restored books",
         b"restored books by other cranes",
     );
     let past = past::all();
-    past.print(b"entries past the counts");
+    past.print(rt, b"entries past the counts");
 }
 
-fn main() {
-    figures();
-    random();
-    changed();
+fn main(rt: HostRuntime) {
+    figures(&rt);
+    random(&rt);
+    changed(&rt);
 }

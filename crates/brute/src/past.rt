@@ -153,7 +153,7 @@ fn written_alike(a: Day, b: Day, run: &[u32]) -> bool {
     let mut other = [9; ROOM];
     let told = a.write(run, &mut one);
     let again = b.write(run, &mut other);
-    (told.length == again.length) & check::same(&one, &other)
+    (told.length == again.length) & (one == other)
 }
 
 // A day of so many calls and one more: every figure and the sheet are the search's, the last call is served from a book with such

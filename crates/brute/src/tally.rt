@@ -1,5 +1,4 @@
 // How many cases of a group were tried, and how many of them agree; the same by other cranes than the quoted ones.
-use libc::STDOUT_FILENO;
 
 #[derive(Clone, Copy)]
 pub struct Tally {
@@ -21,18 +20,18 @@ impl Tally {
     }
 
     // The group's name, and the two numbers.
-    fn write(self, name: &[u8]) {
-        io::write_all(STDOUT_FILENO, name);
-        io::write_all(STDOUT_FILENO, b": tried ");
-        io::print_decimal(STDOUT_FILENO, self.tried);
-        io::write_all(STDOUT_FILENO, b" agree ");
-        io::print_decimal(STDOUT_FILENO, self.agree);
+    fn write(self, rt: &impl Print, name: &[u8]) {
+        let _ = rt.write_all(name);
+        let _ = rt.write_all(b": tried ");
+        let _ = rt.print(self.tried);
+        let _ = rt.write_all(b" agree ");
+        let _ = rt.print(self.agree);
     }
 
     // The same as one line.
-    pub(crate) fn print(self, name: &[u8]) {
-        self.write(name);
-        io::write_all(STDOUT_FILENO, b"\n");
+    pub(crate) fn print(self, rt: &impl Print, name: &[u8]) {
+        self.write(rt, name);
+        let _ = rt.write_all(b"\n");
     }
 }
 
@@ -61,12 +60,12 @@ impl Others {
     }
 
     // One line: the group's name, and the three numbers.
-    pub(crate) fn print(self, name: &[u8]) {
+    pub(crate) fn print(self, rt: &impl Print, name: &[u8]) {
         let days = self.days;
-        days.write(name);
-        io::write_all(STDOUT_FILENO, b" other cranes ");
-        io::print_decimal(STDOUT_FILENO, self.calls);
-        io::write_all(STDOUT_FILENO, b"\n");
+        days.write(rt, name);
+        let _ = rt.write_all(b" other cranes ");
+        let _ = rt.print(self.calls);
+        let _ = rt.write_all(b"\n");
     }
 }
 

@@ -45,13 +45,13 @@ fn grow(before: Grown, table: &[u32], place: u16) -> Grown {
 }
 
 // A book of case A with 256 calls. Prints how many quotes and how many commits were accepted.
-pub(crate) fn filled(fresh: Book, table: &[u32]) -> Book {
+pub(crate) fn filled(rt: &impl Print, fresh: Book, table: &[u32]) -> Book {
     let mut grown = ungrown(fresh);
     for i in 0..Book::CALLS {
         grown = grow(grown, table, (i % 3) as u16);
     }
-    line::number(grown.quotes);
-    line::number(grown.commits);
+    line::number(rt, grown.quotes);
+    line::number(rt, grown.commits);
     grown.book
 }
 
@@ -67,37 +67,37 @@ pub(crate) fn sent(table: &[u32]) -> Book {
 }
 
 // Prints the net costs of a call at a place: the number, those of cranes 0 and 1, and whether all past them are 0, 1 or 0.
-fn net_costs(book: Book, table: &[u32], place: u16) {
+fn net_costs(rt: &impl Print, book: Book, table: &[u32], place: u16) {
     let told = Dispatch::net_costs(book, 3, table, place);
     let verdict = told.verdict;
-    line::verdict(verdict);
-    line::signed(nets::at(told, 0));
-    line::signed(nets::at(told, 1));
-    line::number(nets::zeros_from(told, 2) as u64);
-    line::comma();
+    line::verdict(rt, verdict);
+    line::signed(rt, nets::at(told, 0));
+    line::signed(rt, nets::at(told, 1));
+    line::number(rt, nets::zeros_from(told, 2) as u64);
+    line::comma(rt);
 }
 
 // Prints the quote of a call at place 1: the number, the crane, the metres and the least.
-fn quote(book: Book, table: &[u32]) {
+fn quote(rt: &impl Print, book: Book, table: &[u32]) {
     let quote = Dispatch::quote(book, 3, table, 1);
     let verdict = quote.verdict;
-    line::verdict(verdict);
-    line::number(quote.crane as u64);
-    line::number(quote.metres as u64);
-    line::number(quote.least);
-    line::comma();
+    line::verdict(rt, verdict);
+    line::number(rt, quote.crane as u64);
+    line::number(rt, quote.metres as u64);
+    line::number(rt, quote.least);
+    line::comma(rt);
 }
 
 // Prints the commit of a crane to a call at a place: the number, the least, and both costs of the book that it returns.
-fn commit(book: Book, table: &[u32], place: u16, crane: usize) -> Book {
+fn commit(rt: &impl Print, book: Book, table: &[u32], place: u16, crane: usize) -> Book {
     let commit = Dispatch::commit(book, 3, table, place, crane);
     let verdict = commit.verdict;
-    line::verdict(verdict);
-    line::number(commit.least);
+    line::verdict(rt, verdict);
+    line::number(rt, commit.least);
     let after = commit.book;
     let costs = Dispatch::costs(after, 3, table);
-    line::number(costs.least);
-    line::number(costs.floor);
+    line::number(rt, costs.least);
+    line::number(rt, costs.floor);
     after
 }
 
@@ -108,12 +108,12 @@ pub(crate) fn spoiled(book: Book) -> Book {
 
 // The same of a commit to place 1 of such a book. Prints also whether the book returned is the one returned without them, and whether it has
 // 0 past its counts, 1 or 0.
-fn commit_padded(book: Book, table: &[u32], crane: usize) {
+fn commit_padded(rt: &impl Print, book: Book, table: &[u32], crane: usize) {
     let plain = Dispatch::commit(book, 3, table, 1, crane);
-    let after = commit(spoiled(book), table, 1, crane);
-    line::number(entries::same(plain.book, after) as u64);
-    line::number(entries::same(entries::padded(after, 0, 0, 0), after) as u64);
-    line::comma();
+    let after = commit(rt, spoiled(book), table, 1, crane);
+    line::number(rt, entries::same(plain.book, after) as u64);
+    line::number(rt, entries::same(entries::padded(after, 0, 0, 0), after) as u64);
+    line::comma(rt);
 }
 
 // The book before the last call, over the legs of case A.
@@ -125,48 +125,48 @@ fn before_last(table: &[u32]) -> Book {
 
 // The book before the last call: the net costs, those of a place past the last, and the quote; each crane, a number above them, and that
 // number to a place past the last. Then with other entries past its counts.
-pub(crate) fn last(table: &[u32]) {
+pub(crate) fn last(rt: &impl Print, table: &[u32]) {
     let book = before_last(table);
-    line::begin(29);
-    net_costs(book, table, 1);
-    net_costs(book, table, 3);
-    quote(book, table);
-    commit(book, table, 1, 0);
-    line::comma();
-    commit(book, table, 1, 1);
-    line::comma();
-    commit(book, table, 1, 2);
-    line::comma();
-    commit(book, table, 3, 2);
-    line::comma();
-    line::begin(30);
-    net_costs(spoiled(book), table, 1);
-    quote(spoiled(book), table);
-    commit_padded(book, table, 0);
-    commit_padded(book, table, 1);
+    line::begin(rt, 29);
+    net_costs(rt, book, table, 1);
+    net_costs(rt, book, table, 3);
+    quote(rt, book, table);
+    commit(rt, book, table, 1, 0);
+    line::comma(rt);
+    commit(rt, book, table, 1, 1);
+    line::comma(rt);
+    commit(rt, book, table, 1, 2);
+    line::comma(rt);
+    commit(rt, book, table, 3, 2);
+    line::comma(rt);
+    line::begin(rt, 30);
+    net_costs(rt, spoiled(book), table, 1);
+    quote(rt, spoiled(book), table);
+    commit_padded(rt, book, table, 0);
+    commit_padded(rt, book, table, 1);
 }
 
 // Prints the metres of cranes 0 and 1, and their sum.
-fn metres(book: Book) {
+fn metres(rt: &impl Print, book: Book) {
     let first = book.driven[0] as u64;
     let second = book.driven[1] as u64;
-    line::number(first);
-    line::number(second);
-    line::number(std::num::wrapping_add_u64(first, second));
-    line::comma();
+    line::number(rt, first);
+    line::number(rt, second);
+    line::number(rt, std::num::wrapping_add_u64(first, second));
+    line::comma(rt);
 }
 
 // After the last call: the metres by the quoted crane, and by crane 0. Then the sum of the drives, the way home and the floor of the served day.
-pub(crate) fn driven(table: &[u32]) {
+pub(crate) fn driven(rt: &impl Print, table: &[u32]) {
     let book = before_last(table);
     let quoted = grow(ungrown(book), table, 1);
     let other = Dispatch::commit(book, 3, table, 1, 0);
     let served = Dispatch::serve_day(days::day(3, 2, 3, 2, 1), table);
-    line::begin(31);
-    metres(quoted.book);
-    metres(other.book);
-    line::number(served.driven);
-    line::number(served.home);
-    line::number(served.floor);
-    line::comma();
+    line::begin(rt, 31);
+    metres(rt, quoted.book);
+    metres(rt, other.book);
+    line::number(rt, served.driven);
+    line::number(rt, served.home);
+    line::number(rt, served.floor);
+    line::comma(rt);
 }

@@ -94,7 +94,7 @@ fn writes(day: Day, legs: &[u32], bytes: &[u8]) -> bool {
     if Day::FILE_LENGTH < length {
         return false;
     }
-    check::same(bytes, &buffer[0..length])
+    bytes == &buffer[0..length]
 }
 
 // Whether a day that is read of a file is written back byte for byte, with the legs of the table that is read.
@@ -118,22 +118,22 @@ fn sum(table: &[u32]) -> u64 {
 }
 
 // Reads a file.
-fn read(bytes: &[u8]) {
+fn read(rt: &impl Print, bytes: &[u8]) {
     let reading = Day::read(bytes);
     let verdict = reading.verdict;
-    line::verdict(verdict);
-    line::number(reading.index as u64);
+    line::verdict(rt, verdict);
+    line::number(rt, reading.index as u64);
     let table = reading.table;
     let entries = &table[..];
-    line::number(comes_back(reading.day, entries, bytes) as u64);
-    line::number(sum(entries));
-    line::comma();
+    line::number(rt, comes_back(reading.day, entries, bytes) as u64);
+    line::number(rt, sum(entries));
+    line::comma(rt);
 }
 
 // Reads so many bytes of a file, where it has them.
-fn read_part(file: &[u8], length: usize) {
+fn read_part(rt: &impl Print, file: &[u8], length: usize) {
     if length <= file.len() {
-        read(&file[0..length]);
+        read(rt, &file[0..length]);
     }
 }
 
@@ -185,18 +185,18 @@ fn put_legs(file: &mut [u8], legs: usize) -> usize {
 }
 
 // Reads a file of four records: so many of their bytes, with one byte set.
-fn short(first: u64, second: u64, third: u64, last: u64, length: usize, at: usize, byte: u8) {
+fn short(rt: &impl Print, first: u64, second: u64, third: u64, last: u64, length: usize, at: usize, byte: u8) {
     let mut file = [0; SHORT];
     put(&mut file[..], 0, first);
     put(&mut file[..], 12, second);
     put(&mut file[..], 24, third);
     put(&mut file[..], 36, last);
     set(&mut file[..], at, byte);
-    read_part(&file, length);
+    read_part(rt, &file, length);
 }
 
 // Reads a file of so many legs, the last of so many metres, cranes, calls and one record more: so many of their bytes.
-fn long(legs: usize, metres: u8, cranes: usize, calls: usize, last: u64, length: usize) {
+fn long(rt: &impl Print, legs: usize, metres: u8, cranes: usize, calls: usize, last: u64, length: usize) {
     let mut file = [0; LONG];
     let behind = put_legs(&mut file[..], legs);
     set(
@@ -207,117 +207,117 @@ fn long(legs: usize, metres: u8, cranes: usize, calls: usize, last: u64, length:
     let from = put_many(&mut file[..], behind, K0, cranes);
     let end = put_many(&mut file[..], from, R0, calls);
     put(&mut file[..], end, last);
-    read_part(&file, length);
+    read_part(rt, &file, length);
 }
 
 // Case A, given as its file. Legs 10, 25, 15 and a crane; the triangle rule; a crane alone. Then the metres of a leg, and the triangle rule over a
 // leg of 0.
-pub(crate) fn metres(file: &[u8]) {
-    line::begin(5);
-    read(file);
-    short(A, B25, C, K0, 48, 0, 1);
-    short(A, B26, C, K0, 48, 0, 1);
-    short(K0, NONE, NONE, NONE, 12, 0, 2);
-    short(AMOST, K1, R0, R1, 48, 0, 1);
-    short(A1, K1, R0, R1, 48, 0, 1);
-    short(AOVER, K1, R0, R1, 48, 0, 1);
-    short(A0, K1, R0, R1, 48, 0, 1);
-    short(A, BOVER, C, K0, 48, 0, 1);
-    short(A0, B5, C5, K0, 48, 0, 1);
-    short(A0, B5, C6, K0, 48, 0, 1);
+pub(crate) fn metres(rt: &impl Print, file: &[u8]) {
+    line::begin(rt, 5);
+    read(rt, file);
+    short(rt, A, B25, C, K0, 48, 0, 1);
+    short(rt, A, B26, C, K0, 48, 0, 1);
+    short(rt, K0, NONE, NONE, NONE, 12, 0, 2);
+    short(rt, AMOST, K1, R0, R1, 48, 0, 1);
+    short(rt, A1, K1, R0, R1, 48, 0, 1);
+    short(rt, AOVER, K1, R0, R1, 48, 0, 1);
+    short(rt, A0, K1, R0, R1, 48, 0, 1);
+    short(rt, A, BOVER, C, K0, 48, 0, 1);
+    short(rt, A0, B5, C5, K0, 48, 0, 1);
+    short(rt, A0, B5, C6, K0, 48, 0, 1);
     // No record, part of a record, and a record and a byte; 1 before 2.
-    line::begin(6);
-    short(K0, NONE, NONE, NONE, 0, 0, 2);
-    short(K0, NONE, NONE, NONE, 11, 0, 2);
-    short(K0, NONE, NONE, NONE, 13, 0, 2);
-    short(K0, NONE, NONE, NONE, 13, 0, 9);
+    line::begin(rt, 6);
+    short(rt, K0, NONE, NONE, NONE, 0, 0, 2);
+    short(rt, K0, NONE, NONE, NONE, 11, 0, 2);
+    short(rt, K0, NONE, NONE, NONE, 13, 0, 2);
+    short(rt, K0, NONE, NONE, NONE, 13, 0, 9);
 }
 
 // Another kind, and each byte that must be 0, in a crane, a call and a leg.
-pub(crate) fn kinds() {
-    line::begin(7);
-    short(NONE, NONE, NONE, NONE, 12, 0, 0);
-    short(K0, ODD, NONE, NONE, 24, 0, 2);
-    short(K0, R0, R0, NONE, 36, 1, 1);
-    short(K0, R0, R0, NONE, 36, 4, 1);
-    short(K0, R0, R0, NONE, 36, 5, 1);
-    short(K0, R0, R0, NONE, 36, 18, 1);
-    short(K0, R0, R0, NONE, 36, 19, 1);
-    short(K0, R0, R0, NONE, 36, 20, 1);
-    short(K0, R0, R0, NONE, 36, 33, 1);
-    short(K0, R0, R0, NONE, 36, 34, 1);
-    short(K0, R0, R0, NONE, 36, 35, 255);
-    short(A, K0, R0, R0, 48, 1, 1);
-    short(A, K0, R0, R0, 48, 6, 1);
-    short(A, K0, R0, R0, 48, 7, 1);
+pub(crate) fn kinds(rt: &impl Print) {
+    line::begin(rt, 7);
+    short(rt, NONE, NONE, NONE, NONE, 12, 0, 0);
+    short(rt, K0, ODD, NONE, NONE, 24, 0, 2);
+    short(rt, K0, R0, R0, NONE, 36, 1, 1);
+    short(rt, K0, R0, R0, NONE, 36, 4, 1);
+    short(rt, K0, R0, R0, NONE, 36, 5, 1);
+    short(rt, K0, R0, R0, NONE, 36, 18, 1);
+    short(rt, K0, R0, R0, NONE, 36, 19, 1);
+    short(rt, K0, R0, R0, NONE, 36, 20, 1);
+    short(rt, K0, R0, R0, NONE, 36, 33, 1);
+    short(rt, K0, R0, R0, NONE, 36, 34, 1);
+    short(rt, K0, R0, R0, NONE, 36, 35, 255);
+    short(rt, A, K0, R0, R0, 48, 1, 1);
+    short(rt, A, K0, R0, R0, 48, 6, 1);
+    short(rt, A, K0, R0, R0, 48, 7, 1);
 }
 
 // Out of order: a first leg that is not (0,1), a leg again, one the other way, a second place above 63, a leg after a crane, a crane
 // after a call.
-pub(crate) fn order() {
-    line::begin(8);
-    short(C, K0, NONE, NONE, 24, 0, 1);
-    short(A, A, K0, NONE, 36, 0, 1);
-    short(BACK, K0, NONE, NONE, 24, 0, 1);
-    short(FAR, K0, NONE, NONE, 24, 0, 1);
-    short(K0, A, NONE, NONE, 24, 0, 2);
-    short(K0, R0, K0, NONE, 36, 0, 2);
+pub(crate) fn order(rt: &impl Print) {
+    line::begin(rt, 8);
+    short(rt, C, K0, NONE, NONE, 24, 0, 1);
+    short(rt, A, A, K0, NONE, 36, 0, 1);
+    short(rt, BACK, K0, NONE, NONE, 24, 0, 1);
+    short(rt, FAR, K0, NONE, NONE, 24, 0, 1);
+    short(rt, K0, A, NONE, NONE, 24, 0, 2);
+    short(rt, K0, R0, K0, NONE, 36, 0, 2);
     // Legs missing, at a crane, at a call and at the end; 3 before 5, before 6, and before 6 at the end.
-    line::begin(9);
-    short(A, B20, K0, NONE, 36, 0, 1);
-    short(A, B20, K256, NONE, 36, 0, 1);
-    short(A, B20, R0, NONE, 36, 0, 1);
-    short(A, B20, NONE, NONE, 24, 0, 1);
+    line::begin(rt, 9);
+    short(rt, A, B20, K0, NONE, 36, 0, 1);
+    short(rt, A, B20, K256, NONE, 36, 0, 1);
+    short(rt, A, B20, R0, NONE, 36, 0, 1);
+    short(rt, A, B20, NONE, NONE, 24, 0, 1);
 }
 
 // 2 before 3, 3 before 4, and each before a fault of the next record. No record has reasons for both 4 and 5, or for both 6 and 7.
-pub(crate) fn stops() {
-    line::begin(10);
-    short(C, K0, NONE, NONE, 24, 6, 1);
-    short(COVER, K0, NONE, NONE, 24, 0, 1);
-    short(C, ODD, NONE, NONE, 24, 0, 1);
-    short(AOVER, A, K0, NONE, 36, 0, 1);
-    short(AOVER, ODD, NONE, NONE, 24, 0, 1);
+pub(crate) fn stops(rt: &impl Print) {
+    line::begin(rt, 10);
+    short(rt, C, K0, NONE, NONE, 24, 6, 1);
+    short(rt, COVER, K0, NONE, NONE, 24, 0, 1);
+    short(rt, C, ODD, NONE, NONE, 24, 0, 1);
+    short(rt, AOVER, A, K0, NONE, 36, 0, 1);
+    short(rt, AOVER, ODD, NONE, NONE, 24, 0, 1);
     // A place not below the number of places; 5 before 6, and before a fault of the next record.
-    line::begin(11);
-    short(A, K2, R0, R0, 48, 0, 1);
-    short(A, K1, R1, R2, 48, 0, 1);
-    short(K1, NONE, NONE, NONE, 12, 0, 2);
-    short(R1, K0, NONE, NONE, 24, 0, 3);
-    short(K256, ODD, NONE, NONE, 24, 0, 2);
+    line::begin(rt, 11);
+    short(rt, A, K2, R0, R0, 48, 0, 1);
+    short(rt, A, K1, R1, R2, 48, 0, 1);
+    short(rt, K1, NONE, NONE, NONE, 12, 0, 2);
+    short(rt, R1, K0, NONE, NONE, 24, 0, 3);
+    short(rt, K256, ODD, NONE, NONE, 24, 0, 2);
 }
 
 // A call before any crane, and no crane; 6 before a fault of the next record, and at the end before 8. A record's test before the end's: 6 of
 // a call, and 3 of a leg, where there is no crane.
-pub(crate) fn cranes() {
-    line::begin(12);
-    short(R0, K0, NONE, NONE, 24, 0, 3);
-    short(R0, ODD, NONE, NONE, 24, 0, 3);
-    short(A, NONE, NONE, NONE, 12, 0, 1);
-    short(A, B26, C, NONE, 36, 0, 1);
-    short(A, R0, NONE, NONE, 24, 0, 1);
-    short(A, C, NONE, NONE, 24, 0, 1);
-    long(3, 1, 0, 0, R2, 48);
+pub(crate) fn cranes(rt: &impl Print) {
+    line::begin(rt, 12);
+    short(rt, R0, K0, NONE, NONE, 24, 0, 3);
+    short(rt, R0, ODD, NONE, NONE, 24, 0, 3);
+    short(rt, A, NONE, NONE, NONE, 12, 0, 1);
+    short(rt, A, B26, C, NONE, 36, 0, 1);
+    short(rt, A, R0, NONE, NONE, 24, 0, 1);
+    short(rt, A, C, NONE, NONE, 24, 0, 1);
+    long(rt, 3, 1, 0, 0, R2, 48);
     // Sixteen cranes, and seventeen; 5 before 6, 6 of a record before 8.
-    line::begin(13);
-    long(3, 1, 15, 0, K2, 228);
-    long(3, 1, 16, 0, K2, 240);
-    long(3, 1, 16, 0, K3, 240);
-    long(3, 3, 16, 0, K2, 240);
+    line::begin(rt, 13);
+    long(rt, 3, 1, 15, 0, K2, 228);
+    long(rt, 3, 1, 16, 0, K2, 240);
+    long(rt, 3, 1, 16, 0, K3, 240);
+    long(rt, 3, 3, 16, 0, K2, 240);
 }
 
 // 256 calls, and 257; 5 before 7, 7 before 8. Then the longest file; a byte more, and a record more; a leg to a place above 63; the triangle
 // rule.
-pub(crate) fn calls() {
-    line::begin(14);
-    long(3, 1, 1, 255, R2, 3_120);
-    long(3, 1, 1, 256, R2, 3_132);
-    long(3, 1, 1, 256, R3, 3_132);
-    long(3, 3, 1, 256, R2, 3_132);
-    line::begin(15);
-    long(2_016, 1, 16, 255, R63, 27_456);
-    long(2_016, 1, 16, 256, R63, 27_457);
-    long(2_016, 1, 16, 256, R63, 27_468);
-    long(2_017, 1, 16, 254, R63, 27_456);
-    long(2_016, 3, 16, 255, R63, 27_456);
+pub(crate) fn calls(rt: &impl Print) {
+    line::begin(rt, 14);
+    long(rt, 3, 1, 1, 255, R2, 3_120);
+    long(rt, 3, 1, 1, 256, R2, 3_132);
+    long(rt, 3, 1, 1, 256, R3, 3_132);
+    long(rt, 3, 3, 1, 256, R2, 3_132);
+    line::begin(rt, 15);
+    long(rt, 2_016, 1, 16, 255, R63, 27_456);
+    long(rt, 2_016, 1, 16, 256, R63, 27_457);
+    long(rt, 2_016, 1, 16, 256, R63, 27_468);
+    long(rt, 2_017, 1, 16, 254, R63, 27_456);
+    long(rt, 2_016, 3, 16, 255, R63, 27_456);
 }

@@ -57,7 +57,7 @@ fn listed(index: usize, leg: Pair, firsts: &[u16], seconds: &[u16]) -> bool {
 }
 
 // How many legs are found by their index, and how many indices by their leg.
-fn lookups() {
+fn lookups(rt: &impl Print) {
     let mut leg = Pair {
         first: 0,
         second: 1,
@@ -69,12 +69,12 @@ fn lookups() {
         indices = std::num::wrapping_add_u64(indices, one(placed(index, leg)));
         leg = after(leg);
     }
-    line::number(legs);
-    line::number(indices);
+    line::number(rt, legs);
+    line::number(rt, indices);
 }
 
 // How many legs two columns have at their index.
-fn columns(firsts: &[u16], seconds: &[u16]) {
+fn columns(rt: &impl Print, firsts: &[u16], seconds: &[u16]) {
     let mut leg = Pair {
         first: 0,
         second: 1,
@@ -84,27 +84,27 @@ fn columns(firsts: &[u16], seconds: &[u16]) {
         legs = std::num::wrapping_add_u64(legs, one(listed(index, leg, firsts, seconds)));
         leg = after(leg);
     }
-    line::number(legs);
+    line::number(rt, legs);
 }
 
 // The pair at an index.
-fn at(index: usize) {
+fn at(rt: &impl Print, index: usize) {
     let told = pairs::pair_at(index);
     let verdict = told.verdict;
     let pair = told.pair;
-    line::verdict(verdict);
-    line::number(pair.first as u64);
-    line::number(pair.second as u64);
-    line::comma();
+    line::verdict(rt, verdict);
+    line::number(rt, pair.first as u64);
+    line::number(rt, pair.second as u64);
+    line::comma(rt);
 }
 
 // The index of a pair.
-fn of(first: u16, second: u16) {
+fn of(rt: &impl Print, first: u16, second: u16) {
     let told = pairs::index_of(first, second);
     let verdict = told.verdict;
-    line::verdict(verdict);
-    line::number(told.index as u64);
-    line::comma();
+    line::verdict(rt, verdict);
+    line::number(rt, told.index as u64);
+    line::comma(rt);
 }
 
 // Whether a pair is refused by 5, with the index 0.
@@ -124,42 +124,42 @@ fn refused_to(second: u16) -> u64 {
 }
 
 // How many of the pairs of numbers below `END` are refused.
-fn refused() {
+fn refused(rt: &impl Print) {
     let mut count = 0;
     for second in 0..END {
         count = std::num::wrapping_add_u64(count, refused_to(second));
     }
-    line::number(count);
+    line::number(rt, count);
 }
 
 // Every leg by its index, by its pair, in the table that is held and in the one that is worked out.
-pub(crate) fn each() {
+pub(crate) fn each(rt: &impl Print) {
     let held = pairs::held();
     let held_firsts = held.firsts;
     let held_seconds = held.seconds;
     let worked = legorder::generate();
     let firsts = worked.firsts;
     let seconds = worked.seconds;
-    line::begin(38);
-    lookups();
-    columns(&held_firsts, &held_seconds);
-    columns(&firsts, &seconds);
+    line::begin(rt, 38);
+    lookups(rt);
+    columns(rt, &held_firsts, &held_seconds);
+    columns(rt, &firsts, &seconds);
 }
 
 // Some indices and some pairs, and how many pairs are refused.
-pub(crate) fn some() {
-    line::begin(39);
-    at(1_500);
-    at(2_015);
-    at(2_016);
-    at(18_446_744_073_709_551_615);
-    line::begin(40);
-    of(15, 55);
-    of(62, 63);
-    of(3, 3);
-    of(4, 3);
-    of(0, 64);
-    of(0, 65_535);
-    line::begin(41);
-    refused();
+pub(crate) fn some(rt: &impl Print) {
+    line::begin(rt, 39);
+    at(rt, 1_500);
+    at(rt, 2_015);
+    at(rt, 2_016);
+    at(rt, 18_446_744_073_709_551_615);
+    line::begin(rt, 40);
+    of(rt, 15, 55);
+    of(rt, 62, 63);
+    of(rt, 3, 3);
+    of(rt, 4, 3);
+    of(rt, 0, 64);
+    of(rt, 0, 65_535);
+    line::begin(rt, 41);
+    refused(rt);
 }

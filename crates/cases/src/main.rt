@@ -1,5 +1,5 @@
 // Runs document 01's cases on the compiled library and prints what each gives, below a legend of the lines. Stands on all the libraries here
-// but `season`, and on the toolchain's `io` for writing.
+// but `season`, and on std for writing.
 #![tactic(auto)]
 
 mod books;
@@ -20,41 +20,42 @@ const FILE_A: [u8; 96] =
     *b"\x01\0\0\0\x01\0\0\0\x0a\0\0\0\x01\0\0\0\x02\0\0\0\x14\0\0\0\x01\0\x01\0\x02\0\0\0\x0f\0\0\0\x02\0\0\0\0\0\0\0\0\0\0\0\x02\0\x02\0\0\0\0\0\0\0\0\0\x03\0\x01\0\0\0\0\0\0\0\0\0\x03\0\0\0\0\0\0\0\0\0\0\0\x03\0\x01\0\0\0\0\0\0\0\0\0";
 
 // Road tables and day files; `file` is that of case A.
-fn read(file: &[u8]) {
-    tables::rules();
-    tables::order();
-    files::metres(file);
-    files::kinds();
-    files::order();
-    files::stops();
-    files::cranes();
-    files::calls();
+fn read(rt: &impl Print, file: &[u8]) {
+    tables::rules(rt);
+    tables::order(rt);
+    files::metres(rt, file);
+    files::kinds(rt);
+    files::order(rt);
+    files::stops(rt);
+    files::cranes(rt);
+    files::calls(rt);
 }
 
 // Days, books and calls in memory, prints and sheets; `file` and `legs` are those of case A, `broken` are three legs that break the triangle
 // rule, and `short` are two legs for three places.
-fn memory(file: &[u8], legs: &[u32], broken: &[u32], short: &[u32]) {
-    days::each();
-    days::order(legs, broken);
-    books::counts();
-    books::plans();
-    books::weights();
-    books::metres();
-    books::order();
-    books::cranes();
-    books::fresh(legs, broken, short);
-    calls::last(legs);
-    calls::driven(legs);
-    prints::days(file);
-    prints::refusals();
-    sheets::buffers(legs, broken, short);
-    sheets::past(legs);
-    sheets::widths();
+fn memory(rt: &impl Print, file: &[u8], legs: &[u32], broken: &[u32], short: &[u32]) {
+    days::each(rt);
+    days::order(rt, legs, broken);
+    books::counts(rt);
+    books::plans(rt);
+    books::weights(rt);
+    books::metres(rt);
+    books::order(rt);
+    books::cranes(rt);
+    books::fresh(rt, legs, broken, short);
+    calls::last(rt, legs);
+    calls::driven(rt, legs);
+    prints::days(rt, file);
+    prints::refusals(rt);
+    sheets::buffers(rt, legs, broken, short);
+    sheets::past(rt, legs);
+    sheets::widths(rt);
 }
 
 // What the numbered lines are.
-fn legend() {
+fn legend(rt: &impl Print) {
     line::text(
+        rt,
         b"Tables: the number of the test.
 1 the triangle rule kept and broken, the last two over a leg of 0
 2 1000000, 1000001 and 0 metres; one place
@@ -115,13 +116,13 @@ Cranes near a place: the number, how many, the nearest and the list; then how ma
     );
 }
 
-fn main() {
+fn main(rt: HostRuntime) {
     let file = FILE_A;
-    legend();
-    read(&file);
-    memory(&file, &[10, 20, 15], &[10, 26, 15], &[10, 20]);
-    legs::each();
-    legs::some();
-    nearby::each(&[0, 5, 5, 9, 9, 4]);
-    line::text(b"\n");
+    legend(&rt);
+    read(&rt, &file);
+    memory(&rt, &file, &[10, 20, 15], &[10, 26, 15], &[10, 20]);
+    legs::each(&rt);
+    legs::some(&rt);
+    nearby::each(&rt, &[0, 5, 5, 9, 9, 4]);
+    line::text(&rt, b"\n");
 }

@@ -18,9 +18,9 @@ pub(crate) fn zeros_from(told: NetCosts, from: usize) -> bool {
 }
 
 // Prints of a book and a call the number of the net costs, and whether all entries are 0, 1 or 0.
-pub(crate) fn ask(book: Book, places: usize, table: &[u32], place: u16) {
+pub(crate) fn ask(rt: &impl Print, book: Book, places: usize, table: &[u32], place: u16) {
     let told = Dispatch::net_costs(book, places, table, place);
     let verdict = told.verdict;
-    line::verdict(verdict);
-    line::number(zeros_from(told, 0) as u64);
+    line::verdict(rt, verdict);
+    line::number(rt, zeros_from(told, 0) as u64);
 }

@@ -56,7 +56,7 @@ fn expected(date: Date) -> u8 {
 }
 
 // Prints how many days there are, how many of them are told by the right number, and how many are later than the day before.
-fn counted() {
+fn counted(rt: &impl Print) {
     let mut days = 0;
     let mut right = 0;
     let mut ascending = 0;
@@ -68,9 +68,9 @@ fn counted() {
         ascending = std::num::wrapping_add_u64(ascending, later(at, before) as u64);
         before = at;
     }
-    line::number(days);
-    line::number(right);
-    line::number(ascending);
+    line::number(rt, days);
+    line::number(rt, right);
+    line::number(rt, ascending);
 }
 
 // 1 if a day of a year is accepted, else 0: the months 0 to 15 in turn, for each the days 0 to 63.
@@ -110,16 +110,18 @@ fn days() -> u64 {
     days
 }
 
-pub(crate) fn each() {
+pub(crate) fn each(rt: &impl Print) {
     line::begin(
+        rt,
         b"days from 1 March 1582 to 29 February 10000; told by the right number; later than the day before",
     );
-    counted();
-    line::end();
+    counted(rt);
+    line::end(rt);
     line::begin(
+        rt,
         b"dates accepted, of the years 1500 to 10099, months 0 to 15, days 0 to 63; days of 1583 to 9999 by the count",
     );
-    line::number(accepted());
-    line::number(days());
-    line::end();
+    line::number(rt, accepted());
+    line::number(rt, days());
+    line::end(rt);
 }

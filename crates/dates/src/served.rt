@@ -20,18 +20,18 @@ fn day_a() -> Day {
 }
 
 // Its number, drive, way home and floor.
-fn serve(legs: &[u32]) {
+fn serve(rt: &impl Print, legs: &[u32]) {
     let served = Dispatch::serve_day(day_a(), legs);
     let verdict = served.verdict;
-    line::verdict(verdict);
-    line::number(served.driven);
-    line::number(served.home);
-    line::number(served.floor);
+    line::verdict(rt, verdict);
+    line::number(rt, served.driven);
+    line::number(rt, served.home);
+    line::number(rt, served.floor);
 }
 
 // The same on the legs of the first day of a month, the window being that of March to May.
-fn on_day<'a>(ordinary: &'a [u32], thaw: &'a [u32], month: u8) {
-    serve(season::legs(
+fn on_day<'a>(rt: &impl Print, ordinary: &'a [u32], thaw: &'a [u32], month: u8) {
+    serve(rt, season::legs(
         3,
         ordinary,
         thaw,
@@ -40,14 +40,14 @@ fn on_day<'a>(ordinary: &'a [u32], thaw: &'a [u32], month: u8) {
     ));
 }
 
-pub(crate) fn days<'a>(ordinary: &'a [u32], thaw: &'a [u32]) {
-    line::begin(b"case A served in May; over the thaw table");
-    on_day(ordinary, thaw, 5);
-    serve(thaw);
-    line::end();
-    line::begin(b"case A served in June; over the ordinary table; in month 13");
-    on_day(ordinary, thaw, 6);
-    serve(ordinary);
-    on_day(ordinary, thaw, 13);
-    line::end();
+pub(crate) fn days<'a>(rt: &impl Print, ordinary: &'a [u32], thaw: &'a [u32]) {
+    line::begin(rt, b"case A served in May; over the thaw table");
+    on_day(rt, ordinary, thaw, 5);
+    serve(rt, thaw);
+    line::end(rt);
+    line::begin(rt, b"case A served in June; over the ordinary table; in month 13");
+    on_day(rt, ordinary, thaw, 6);
+    serve(rt, ordinary);
+    on_day(rt, ordinary, thaw, 13);
+    line::end(rt);
 }

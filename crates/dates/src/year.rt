@@ -75,15 +75,15 @@ fn window(i: u64) -> u64 {
 }
 
 // Prints how many windows there are, and how many dates have the right table.
-pub(crate) fn windows() {
+pub(crate) fn windows(rt: &impl Print) {
     let mut windows = 0;
     let mut agree = 0;
     for i in 0..4_453 {
         windows = std::num::wrapping_add_u64(windows, 1);
         agree = std::num::wrapping_add_u64(agree, window(i));
     }
-    line::begin(b"windows; dates that have the right table, of 731 each");
-    line::number(windows);
-    line::number(agree);
-    line::end();
+    line::begin(rt, b"windows; dates that have the right table, of 731 each");
+    line::number(rt, windows);
+    line::number(rt, agree);
+    line::end(rt);
 }

@@ -65,13 +65,13 @@ fn add(before: Tally, told: Floors, right: bool) -> Tally {
     }
 }
 
-fn print(name: &[u8], tally: Tally) {
-    line::begin(name);
-    line::number(tally.tried);
-    line::number(tally.right);
-    line::number(tally.apart);
-    line::number(tally.broken);
-    line::end();
+fn print(rt: &impl Print, name: &[u8], tally: Tally) {
+    line::begin(rt, name);
+    line::number(rt, tally.tried);
+    line::number(rt, tally.right);
+    line::number(rt, tally.apart);
+    line::number(rt, tally.broken);
+    line::end(rt);
 }
 
 // The floor of a small day over one of its tables, by the search through all plans.
@@ -122,28 +122,31 @@ fn tallied(days: u64, small: bool) -> Tally {
 }
 
 // Small days, whose floors the search finds too; then random ones, the floor over the table in between beside the other two.
-pub(crate) fn each() {
+pub(crate) fn each(rt: &impl Print) {
     print(
+        rt,
         b"small days; floors as by all plans; lower and upper floor differ; lower tables that break the triangle rule",
         tallied(4_000, true),
     );
     print(
+        rt,
         b"random days; floor in between; lower and upper floor differ; lower tables that break the triangle rule",
         tallied(1_000, false),
     );
 }
 
 // The day of 64 places, 16 cranes and 256 calls.
-pub(crate) fn full() {
+pub(crate) fn full(rt: &impl Print) {
     let told = told(0, draw::day(0, 64, 16, 256));
     line::begin(
+        rt,
         b"a full day, number, lower and upper floor; number and floor over the table in between; number of the lower table",
     );
-    line::number(told.rough as u64);
-    line::number(told.lower);
-    line::number(told.upper);
-    line::number(told.served as u64);
-    line::number(told.floor);
-    line::number(told.table as u64);
-    line::end();
+    line::number(rt, told.rough as u64);
+    line::number(rt, told.lower);
+    line::number(rt, told.upper);
+    line::number(rt, told.served as u64);
+    line::number(rt, told.floor);
+    line::number(rt, told.table as u64);
+    line::end(rt);
 }

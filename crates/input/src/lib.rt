@@ -1,9 +1,10 @@
-// Reading all of standard input, for the programs. Stands on the toolchain's `io`, `libc` and `os`.
+// Reading all of a reader, as standard input, for the programs. Stands on std alone.
 #![tactic(auto)]
 
-ghost use Rattle.io.specs.Counts.{IsPrefixLen};
+ghost use Rattle.std.specs.Prelude.{IfSome};
+ghost use Rattle.base.specs.Counts.{IsPrefixLen};
 
-use libc::STDIN_FILENO;
+use std::io::{ErrorKind, Read};
 
 // How often one read is tried where a signal interrupts it each time. After that many it has failed, so that the program ends.
 const TRIES: usize = 1_000_000;
@@ -15,19 +16,20 @@ pub struct Input {
     pub failed: bool,
 }
 
-// Reads into the front of the buffer until the buffer is full, the input has ended or a read fails. Which bytes arrive is open: the
-// contract of C's `read` says nothing of them.
-pub fn read_all(buffer: &mut [u8]) -> Input
+// Reads into the front of the buffer until the buffer is full, the input has ended or a read fails. Which bytes arrive from standard
+// input is open: the contract of its `read` says nothing of them.
+pub fn read_all<R: Read>(reader: &mut R, buffer: &mut [u8]) -> Input
     ensures { IsPrefixLen result.length buffer.new }
 {
     let mut done = 0;
     while done < buffer.len() {
-        let got = read_some(&mut buffer[done..]);
-        let count = io::count(got, &buffer[done..]);
+        let got = read_some(reader, &mut buffer[done..]);
+        let failed = got.is_none();
+        let count = got.unwrap_or(0);
         if count == 0 {
             return Input {
                 length: done,
-                failed: got < 0,
+                failed,
             };
         }
         done += count;
@@ -39,18 +41,21 @@ pub fn read_all(buffer: &mut [u8]) -> Input
 }
 
 // One read into the front of the buffer, tried again where it is interrupted: the number of bytes, 0 where the input has ended,
-// -1 where the read fails.
-fn read_some(buffer: &mut [u8]) -> isize {
+// none where the read fails.
+fn read_some<R: Read>(reader: &mut R, buffer: &mut [u8]) -> Option<usize>
+    ensures { IfSome result (λ count. IsPrefixLen count buffer.new) }
+{
     let mut tries = TRIES;
     while 0 < tries {
-        let got = libc::read(STDIN_FILENO, buffer);
-        if 0 <= got {
-            return got;
-        }
-        if os::errno() != libc::EINTR {
-            return -1;
+        match reader.read(buffer) {
+            Ok(count) => return Some(count),
+            Err(error) => {
+                if error.kind() != ErrorKind::Interrupted {
+                    return None;
+                }
+            }
         }
         tries -= 1;
     }
-    -1
+    None
 }

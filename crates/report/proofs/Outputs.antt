@@ -11,7 +11,7 @@ use Rattle.base.specs.Lists.{splice}
 use Rattle.base.specs.Numbers.{unless_refused}
 use Rattle.base.proofs.Lists.{drop-replicate}
 use Rattle.base.proofs.Numbers.{zeros_told, either_told}
-use Rattle.io.specs.Counts.{IsPrefixLen}
+use Rattle.base.specs.Counts.{IsPrefixLen}
 use Rattle.road.specs.Table.{Table, most_places, legs_of}
 use Rattle.road.proofs.Order.{legs_counted}
 use Rattle.dayfile.specs.declared.Day.{Day}

@@ -1,12 +1,12 @@
 // What the programs print: a day file read, its calls served, and a line or a row for each, or the line of a refusal. Stands on `base`,
-// `road`, `dayfile`, `workfunction`, `book`, `dispatch` and `sheet`, and on the toolchain's `io` and `bytes`.
+// `road`, `dayfile`, `workfunction`, `book`, `dispatch` and `sheet`, and on the kit's `itoa`.
 #![tactic(auto)]
 
 mod day;
 mod text;
 
 ghost use Rattle.std.specs.Prelude.{◌≡◌};
-ghost use Rattle.io.specs.Counts.{IsPrefixLen};
+ghost use Rattle.base.specs.Counts.{IsPrefixLen};
 ghost use Rattle.report.specs.Report.{day_in, file_text, print_of, sheet_print_of, printed};
 
 use day::Form;

@@ -9,7 +9,9 @@ fn put(text: &[u8], out: &mut [u8], at: usize) -> usize
     requires { at + length text.now ≤ length out.old }
     ensures { Put text.now out.old at out.new result }
 {
-    at + bytes::copy(text, &mut out[at..])
+    let end = at + text.len();
+    out[at..end].copy_from_slice(text);
+    end
 }
 
 // A number in decimal.
@@ -18,8 +20,8 @@ fn put_number(n: u64, out: &mut [u8], at: usize) -> usize
     ensures { Put (decimal n) out.old at out.new result }
 {
     let mut digits = [0; 20];
-    let count = io::decimal(n, &mut digits);
-    put(&digits[..count], out, at)
+    let start = itoa::write_digits(n, &mut digits, 20);
+    put(&digits[start..], out, at)
 }
 
 // A word, and a number behind it.
