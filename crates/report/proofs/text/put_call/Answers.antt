@@ -16,20 +16,20 @@ short : (c : Start) → (length (decimal c.args.i) ≤ 20) × (length (decimal c
 short c = (length-decimal c.args.i, length-decimal c.args.crane, length-decimal c.args.metres, length-decimal c.args.least)
 
 pub put_field-sent-requires : goal.put_field-sent-requires
-put_field-sent-requires c = omega (arith, short (goal.at.put_field-sent-requires c).After-put_field-arg-1)
+put_field-sent-requires c = omega (arith, short (goal.at.put_field-sent-requires c).Start)
 
 pub put_field-driven-requires : goal.put_field-driven-requires
-put_field-driven-requires c = omega (arith, short (goal.at.put_field-driven-requires c).After-put_field-arg-2-1)
+put_field-driven-requires c = omega (arith, short (goal.at.put_field-driven-requires c).Start)
 
 pub put_field-told-requires : goal.put_field-told-requires
-put_field-told-requires c = omega (arith, short (goal.at.put_field-told-requires c).After-put_field-arg-3-1)
+put_field-told-requires c = omega (arith, short (goal.at.put_field-told-requires c).Start)
 
 pub put-requires : goal.put-requires
-put-requires c = omega (arith, short (goal.at.put-requires c).After-put_field-called)
+put-requires c = omega (arith, short (goal.at.put-requires c).Start)
 
 pub returns : goal.returns
 unfolding call_line
-returns c = let most = short (goal.at.returns c).After-put_field-called in
+returns c = let most = short (goal.at.returns c).Start in
     put_on
     (put_on
     (put_on (put_on c.put_field-called.ensures c.put_field-sent.ensures (omega arith)) c.put_field-driven.ensures (omega arith))

@@ -15,17 +15,17 @@ short : (c : Start) → (length (decimal c.args.driven) ≤ 20) × (length (deci
 short c = (length-decimal c.args.driven, length-decimal c.args.home, length-decimal c.args.floor)
 
 pub put_field-back-requires : goal.put_field-back-requires
-put_field-back-requires c = omega (arith, short (goal.at.put_field-back-requires c).After-put_field-arg-1)
+put_field-back-requires c = omega (arith, short (goal.at.put_field-back-requires c).Start)
 
 pub put_field-told-requires : goal.put_field-told-requires
-put_field-told-requires c = omega (arith, short (goal.at.put_field-told-requires c).After-put_field-arg-2-1)
+put_field-told-requires c = omega (arith, short (goal.at.put_field-told-requires c).Start)
 
 pub put-requires : goal.put-requires
-put-requires c = omega (arith, short (goal.at.put-requires c).After-put_field-arg-3-1)
+put-requires c = omega (arith, short (goal.at.put-requires c).Start)
 
 pub returns : goal.returns
 unfolding last_line
-returns c = let most = short (goal.at.returns c).After-put_field-arg-3-1 in
+returns c = let most = short (goal.at.returns c).Start in
     put_on
     (put_on (put_on c.put_field-summed.ensures c.put_field-back.ensures (omega arith)) c.put_field-told.ensures (omega arith))
     c.put.ensures

@@ -15,13 +15,13 @@ short : (c : Start) → (length (decimal c.args.number) ≤ 20) × (length (deci
 short c = (length-decimal c.args.number, length-decimal c.args.index)
 
 pub put_field-told-requires : goal.put_field-told-requires
-put_field-told-requires c = omega (arith, short (goal.at.put_field-told-requires c).After-put_field-arg-1)
+put_field-told-requires c = omega (arith, short (goal.at.put_field-told-requires c).Start)
 
 pub put-requires : goal.put-requires
-put-requires c = omega (arith, short (goal.at.put-requires c).After-put_field-arg-2-1)
+put-requires c = omega (arith, short (goal.at.put-requires c).Start)
 
 pub returns : goal.returns
 unfolding refused_line
-returns c = let most = short (goal.at.returns c).After-put_field-arg-2-1 in
+returns c = let most = short (goal.at.returns c).Start in
     put_on (put_on c.put_field-numbered.ensures c.put_field-told.ensures (omega arith))
     c.put.ensures (omega arith)
