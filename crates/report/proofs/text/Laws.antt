@@ -1,74 +1,51 @@
 -- The laws of the print: the digits of a number, and text written behind text.
 -- Assumes nothing.
-use Prim.Native.Nat.{ℕ, zero, suc, ◌+◌, ◌-◌, ◌*◌, ◌/◌, ◌%◌, ◌^◌, ◌<◌, ◌≤◌, zero-le, suc-le-suc}
-use mathlib.Core.List.{List, [], ◌∷◌, ◌++◌, append_assoc}
-use mathlib.Core.Path.{◌≡◌, refl, ap, subst, ◌∙◌}
-use borrow.Author.Tests.{lt-ltb, le-ltb}
-use lib.ListN.{length, take, drop, length-append, length-drop, take-append-drop}
-use lib.Seq.{length-take-le, take-length, drop-append-le, drop-drop}
-use native.Mathlib.Nat.{not-suc-le-zero, zero-lt-suc, le_of_suc-le-suc, lt_of_not-le, mod-lt, mod-eq_of_lt}
-use native.Mathlib.Nat.{one-le-pow, pow-suc, pow-le-pow_right}
+use Prim.Native.Nat.{ℕ, zero, suc, ◌+◌, ◌-◌, ◌*◌, ◌^◌, ◌<◌, ◌≤◌, zero-le}
+use mathlib.Core.List.{List, ◌++◌}
+use mathlib.Core.Path.{◌≡◌, refl, sym, ◌∙◌}
+use lib.ListN.{length, take, drop, length-append}
+use lib.Seq.{take-append_seam, drop-drop}
+use native.Mathlib.Nat.{zero-lt-suc}
 use native.Mathlib.Numerals.{add-one}
 use native.Mathlib.Omega.{arith}
 use Rattle.base.specs.Decimal.{up_to_digits, decimal}
 use Rattle.base.specs.Lists.{splice}
-use Rattle.base.proofs.Decimal.{length-decimal}
+use Rattle.base.proofs.Decimal.{digits_one, digits_more, length-decimal}
 use Rattle.base.proofs.Lists.{splice-none, splice_on}
-use Rattle.io.specs.Digits.{last_digits, IsDigitCount}
+use Rattle.std.specs.Fmt.{decimal as spelled}
+use Rattle.std.proofs.lemmas.Fmt.{decimal_from_appends, length-decimal-le}
 use Rattle.dayfile.specs.Day.{most_calls}
 use Rattle.report.specs.Text.{call_line, last_line, refused_line, call_lines, day_text}
 use Rattle.report.specs.Put.{Put}
 
 -- ---- digits
 
--- a number of suc j digits, which are at most k
-spelled : (k j n : ℕ) → j < k → n < 10 ^ suc j → (0 < j → 10 ^ j ≤ n) → last_digits 10 (suc j) n ≡ up_to_digits k n
-unfolding up_to_digits
-spelled zero j n h most least = absurd (not-suc-le-zero h)
-spelled (suc k) zero n h most least = rw (mod-eq_of_lt most, lt-ltb n 10 most)
-spelled (suc k) (suc j) n h most least =
-    let some : 10 ^ j * 10 ≤ n = rw (pow-suc 10 j) at (least (zero-lt-suc j)) in
-    let below : n < 10 ^ suc j * 10 = rw (pow-suc 10 (suc j)) at most in
-    let one : 1 ≤ 10 ^ j = one-le-pow j 10 (zero-lt-suc 9) in
-    let ten : 10 ≤ n = omega arith in
-    rw (le-ltb n 10 ten, lt-ltb (n % 10) 10 (mod-lt n (zero-lt-suc 9)))
-    (ap (λ (l : List ℕ). l ++ ((48 + n % 10) ∷ [])) (spelled k j (n / 10) (le_of_suc-le-suc h) (omega arith) (λ p. omega arith)))
-
 -- 20 digits hold a number of 64 bits
-pub few_digits : (n r : ℕ) → n < 2 ^ 64 → IsDigitCount 10 1 n r → r ≤ 20
-few_digits n r h few = le_of_suc-le-suc (lt_of_not-le (λ (many : 21 ≤ r).
-    let least : 10 ^ (r - 1) ≤ n = few.2 (omega arith) in
-    let over : 20 ≤ r - 1 = omega arith in
-    let more : 10 ^ 20 ≤ 10 ^ (r - 1) = pow-le-pow_right (zero-lt-suc 9) over in
-    omega arith))
+pub spelled_length : (n : ℕ) → n < 2 ^ 64 → length (spelled n) ≤ 20
+spelled_length n h = length-decimal-le 20 n (zero-lt-suc 19) (omega arith) h
 
--- the fewest digits of a number are its decimal
-pub digits_decimal : (n r : ℕ) → n < 2 ^ 64 → IsDigitCount 10 1 n r → last_digits 10 r n ≡ decimal n
+-- what std spells of a number of 64 bits is its decimal
+pub spelled_decimal : (n : ℕ) → n < 2 ^ 64 → spelled n ≡ decimal n
 unfolding decimal
-digits_decimal n zero h few = absurd (not-suc-le-zero few.0)
-digits_decimal n (suc j) h few =
-    let same : suc j - 1 ≡ j = omega arith in
-    spelled 20 j n (few_digits n (suc j) h few) few.1 (λ p. subst (λ (i : ℕ). 10 ^ i ≤ n) same (few.2 (suc-le-suc p)))
+spelled_decimal n h =
+    sym (decimal_from_appends up_to_digits (record { one = digits_one; more = digits_more }) 20 n h (spelled_length n h))
+
+-- those that end a buffer of 20 bytes
+pub digits_taken : (n start : ℕ) (digits behind : List ℕ) → n < 2 ^ 64 → start + length (spelled n) ≡ 20 → drop start digits ≡ spelled n ++ behind
+    → take (20 - start) (drop start digits) ≡ decimal n
+digits_taken n start digits behind h ends written =
+    let long : 20 - start ≡ length (spelled n) = omega arith in
+    rw (long, written, take-append_seam (spelled n) behind, spelled_decimal n h)
 
 -- ---- text behind text
 
--- a text copied into the rest of a buffer from index at
-pub copied : (text old new : List ℕ) (at : ℕ) → at + length text ≤ length old
-    → new ≡ take (length text) text ++ drop (length text) (take (length old - at) (drop at old))
-    → take at old ++ (new ++ drop (length old - at) (drop at old)) ≡ splice at text old
+-- a text copied into the part of a buffer from index at that is as long
+pub copied : (text old new : List ℕ) (at : ℕ) → new ≡ text
+    → take at old ++ (new ++ drop (at + length text - at) (drop at old)) ≡ splice at text old
 unfolding splice
-copied text old new at h e =
-    let k : ℕ = length old - at in
-    let rest : List ℕ = drop at old in
-    let fits : length text ≤ length (take k rest) = omega (arith, length-take-le k rest (omega (arith, length-drop at old))) in
-    rw (
-      e,
-      take-length text,
-      append_assoc text (drop (length text) (take k rest)) (drop k rest),
-      ← drop-append-le (length text) (take k rest) (drop k rest) fits,
-      take-append-drop k rest,
-      drop-drop (length text) at old,
-    )
+copied text old new at e =
+    let long : at + length text - at ≡ length text = omega arith in
+    rw (e, long, drop-drop (length text) at old)
 
 pub put_on : {a b old mid now : List ℕ} {at x y : ℕ} → Put a old at mid x → Put b mid x now y → y ≤ length old
     → Put (a ++ b) old at now y
