@@ -81,14 +81,14 @@ module _ {n : ℕ} {d read : ℕ → ℕ → ℕ} (roads : Roads n d read) {star
     module _ (plan' : List ℕ) (weights' : List ℤ) (left : List ℕ) {s : ℕ} {old : ℕ → ℤ}
         (taken : Inserted (length starts) (stops starts calls) (follower (set plan (stops starts calls) (stops starts calls))) (leg_at longer) s
         (follower plan') old (weight weights'))
-        (put : FollowerPut s r longer left) (plan_long_lem : most_stops ≤ length plan') (weights_long_lem : most_stops ≤ length weights') where
+        (put : FollowerPut s r longer left) (plan_long : most_stops ≤ length plan') (weights_long : most_stops ≤ length weights') where
       served_vouched : vouch_rule (length starts) (stops starts calls + 1) (follower plan')
           (leg_cost d starts (calls ++ (r ∷ [])) (moved stands r s)) (weight (set weights' s (pos 0))) ≡ true
       served_vouched =
           inserted_served roads.laws kept.asked.day kept.standing asked (kept_plan roads.legible kept (omega arith) long asked added)
           (kept_self roads.legible kept (omega arith) long asked added) (leg_longer roads.legible kept (omega arith) long asked added) taken
-          (weight (set weights' s (pos 0))) (end_weight roads.legible kept (omega arith) long asked added weights' taken put weights_long_lem)
-          (other_weight roads.legible kept (omega arith) long asked added weights' taken put weights_long_lem)
+          (weight (set weights' s (pos 0))) (end_weight roads.legible kept (omega arith) long asked added weights' taken put weights_long)
+          (other_weight roads.legible kept (omega arith) long asked added weights' taken put weights_long)
 
       served_kept : length calls < most_calls → Kept n d starts (calls ++ (r ∷ [])) (moved stands r s) plan' (set weights' s (pos 0)) left
       served_kept space =
@@ -99,12 +99,12 @@ module _ {n : ℕ} {d read : ℕ → ℕ → ℕ} (roads : Roads n d read) {star
             standing = end_standing roads.legible kept (omega arith) long asked added weights' taken put;
             certified = record {
               planned = rw one at (served_plan roads.legible kept (omega arith) long asked added taken);
-              ranged = rw one at (served_range roads.legible kept (omega arith) long asked added weights' taken put weights_long_lem);
+              ranged = rw one at (served_range roads.legible kept (omega arith) long asked added weights' taken put weights_long);
               vouched = rw one at served_vouched;
             };
             table = left_table roads.legible kept (omega arith) long asked added weights' taken put;
-            plan_long_lem = plan_long_lem;
-            weights_long_lem = rw length-set weights_long_lem;
+            plan_long = plan_long;
+            weights_long = rw length-set weights_long;
           }
 
       leg_left : (p b : ℕ) → p < stops starts calls + 1 → b < stops starts calls + 1

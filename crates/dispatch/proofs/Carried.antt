@@ -60,8 +60,8 @@ module _ {book : Book} {n : ℕ} {t : Table} (arrays : BookArrays book) (s : Sou
     certified =
         rw (starts-long (sound_fits arrays s), requests_long (sound_fits arrays s)) (record { planned = s.plan; ranged = s.range; vouched = s.vouched });
     table = sound_table table;
-    plan_long_lem = plan;
-    weights_long_lem = weights;
+    plan_long = plan;
+    weights_long = weights;
   }
 
 -- places of the table keep their rule

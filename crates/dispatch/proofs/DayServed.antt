@@ -234,10 +234,10 @@ module _ {day : Day} {t : Table} {book : Book} (given : FreshDay day t book) whe
 
     pub floor_given : plan_room ≤ length plan → plan_room ≤ length weights
         → EndsGiven (entry (metres_of t)) (starts_of book) (day_requests day) (starts_of book) plan weights costs
-    floor_given plan_long_lem weights_long_lem = record {
+    floor_given plan_long weights_long = record {
       places = day.places;
       stands = stands;
-      movable = kept_movable (sound_roads day_sound).legible done.kept plan_long_lem weights_long_lem;
+      movable = kept_movable (sound_roads day_sound).legible done.kept plan_long weights_long;
       ending = day_asked.day.started;
     }
 

@@ -62,7 +62,7 @@ module _ {n : ℕ} {d read : ℕ → ℕ → ℕ} (legible : Legible n d read) w
 
     pub kept_witnessed : Witnessed (length starts) (stops starts calls) plan weights longer
     kept_witnessed =
-        let weighed = kept.weights_long_lem in
+        let weighed = kept.weights_long in
         record {
           few = few;
           weighed = omega arith;

@@ -33,7 +33,7 @@ pub record NetsGiven (k N : ℕ) (plan costs totals nets before : List ℕ) : Ty
   pub cranes : k ≤ N
   pub netted : k ≤ length nets
   pub freed : k ≤ length before
-  pub plan_long_lem : N < length plan
+  pub plan_long : N < length plan
   pub totals_long : N < length totals
   pub costed : Costed costs
   pub planned : plan_rule k N (follower plan) ≡ true
@@ -94,8 +94,8 @@ pub record InsertGiven (k N : ℕ) (pick : Pick) (plan : List ℕ) (weights : Li
   pub cranes : k ≤ most_cranes
   pub stops : k ≤ N
   pub ends : (e : ℕ) → e < k → picked pick e < k
-  pub plan_long_lem : N < length plan
-  pub weights_long_lem : N < length weights
+  pub plan_long : N < length plan
+  pub weights_long : N < length weights
   pub costed : Costed costs
   pub witnessed : Witnessed k N plan weights costs
 
@@ -132,16 +132,16 @@ pub record Kept (n : ℕ) (d : ℕ → ℕ → ℕ) (starts calls stands plan : 
   pub standing : Position n (length starts) stands
   pub certified : Certified (length starts) (stops starts calls) plan weights (leg_cost d starts calls stands)
   pub table : LegTable n d starts calls stands costs
-  pub plan_long_lem : most_stops ≤ length plan
-  pub weights_long_lem : most_stops ≤ length weights
+  pub plan_long : most_stops ≤ length plan
+  pub weights_long : most_stops ≤ length weights
 
 -- such a plan with room for one more call, over what is read off a table of n places, whether it keeps the triangle rule or not: its
 -- ends, here the stands, may be moved
 pub record Movable (n : ℕ) (read : ℕ → ℕ → ℕ) (starts calls stands plan : List ℕ) (weights : List ℤ) (costs : List ℕ) : Type 0 where
   pub legible : Legible n read read
   pub kept : Kept n read starts calls stands plan weights costs
-  pub plan_long_lem : plan_room ≤ length plan
-  pub weights_long_lem : plan_room ≤ length weights
+  pub plan_long : plan_room ≤ length plan
+  pub weights_long : plan_room ≤ length weights
 
 -- what moving the end e to r is given: a plan with some ends
 pub record EndGiven (read : ℕ → ℕ → ℕ) (starts calls : List ℕ) (e r : ℕ) (plan : List ℕ) (weights : List ℤ) (costs : List ℕ) : Type 0 where

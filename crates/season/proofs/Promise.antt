@@ -5,7 +5,6 @@ use mathlib.Core.Bool.{Bool, true, false, ◌&&◌, ◌||◌, cond, false≢true
 use mathlib.Core.List.{[]}
 use mathlib.Core.Logic.{◌⊎◌, inl, inr, ⊎_elim, ◌↔◌}
 use mathlib.Core.Path.{◌≡◌, refl, sym, ap, ◌∙◌}
-use base.Fml.{GName}
 use borrow.Author.Tests.{eqb-true, eq-eqb}
 use lib.ListN.{length, drop_of_length-le}
 use native.Mathlib.Decide.{ℕ_discrete}
@@ -180,50 +179,49 @@ module _ (n : ℕ) (ordinary thaw : Lent) (window : Window) (date : Date) where
       (both_rules first last 13 tables ∙ ap (λ (s : ℕ). unless first 14 then unless last 14 then s)
       (three_tests (run_refusal n (length ordinary.now)) (legs_refusal ordinary.now) (triangle_refusal n ordinary.now) (table_refusal n thaw.now)))
 
-  module _ (name : GName) where
-    -- the reference that comes back
-    abbrev answer : Lent
-    answer = legs_on n ordinary thaw window date name
+  -- the reference that comes back
+  abbrev answer : Lent
+  answer = legs_on n ordinary thaw window date
 
-    -- "as that part itself": the one lent reference or the other
-    pub legs_chosen : refusal ≡ 0 → answer ≡ cond (inside_of window (day_of date)) thaw ordinary
-    unfolding legs_on
-    legs_chosen e = rw e
+  -- "as that part itself": the one lent reference or the other
+  pub legs_chosen : refusal ≡ 0 → answer ≡ cond (inside_of window (day_of date)) thaw ordinary
+  unfolding legs_on
+  legs_chosen e = rw e
 
-    -- "Inside the window the thaw table is the day's"
-    pub legs_thaw : refusal ≡ 0 → inside_of window (day_of date) ≡ true → answer ≡ thaw
-    legs_thaw e inside = legs_chosen e ∙ rw inside
+  -- "Inside the window the thaw table is the day's"
+  pub legs_thaw : refusal ≡ 0 → inside_of window (day_of date) ≡ true → answer ≡ thaw
+  legs_thaw e inside = legs_chosen e ∙ rw inside
 
-    -- "on every other date the ordinary"
-    pub legs_ordinary : refusal ≡ 0 → inside_of window (day_of date) ≡ false → answer ≡ ordinary
-    legs_ordinary e outside = legs_chosen e ∙ rw outside
+  -- "on every other date the ordinary"
+  pub legs_ordinary : refusal ≡ 0 → inside_of window (day_of date) ≡ false → answer ≡ ordinary
+  legs_ordinary e outside = legs_chosen e ∙ rw outside
 
-    -- "A refusal hands back an empty part": of the ordinary table
-    pub legs_refused : (refusal ≡ 0 → ⊥) → answer ≡ empty_part ordinary name
-    unfolding legs_on
-    legs_refused r = sym (zeros_told refusal _ (λ number. empty_part ordinary name) r)
+  -- "A refusal hands back an empty part": of the ordinary table
+  pub legs_refused : (refusal ≡ 0 → ⊥) → answer ≡ empty_part ordinary
+  unfolding legs_on
+  legs_refused r = sym (zeros_told refusal _ (λ number. empty_part ordinary) r)
 
-    -- what comes back of accepted inputs is an accepted table of so many places
-    pub legs_accepted : refusal ≡ 0 → table_refusal n answer.now ≡ 0
-    legs_accepted e = pick (inside_of window (day_of date)) refl
-      where
-        tables : (table_refusal n ordinary.now ≡ 0) × (table_refusal n thaw.now ≡ 0)
-        tables = then_zero _ _ (then_zero (calendar_refusal window date) _ e).1
+  -- what comes back of accepted inputs is an accepted table of so many places
+  pub legs_accepted : refusal ≡ 0 → table_refusal n answer.now ≡ 0
+  legs_accepted e = pick (inside_of window (day_of date)) refl
+    where
+      tables : (table_refusal n ordinary.now ≡ 0) × (table_refusal n thaw.now ≡ 0)
+      tables = then_zero _ _ (then_zero (calendar_refusal window date) _ e).1
 
-        pick : (b : Bool) → inside_of window (day_of date) ≡ b → table_refusal n answer.now ≡ 0
-        pick true inside = ap (λ (t : Lent). table_refusal n t.now) (legs_thaw e inside) ∙ tables.1
-        pick false outside = ap (λ (t : Lent). table_refusal n t.now) (legs_ordinary e outside) ∙ tables.0
+      pick : (b : Bool) → inside_of window (day_of date) ≡ b → table_refusal n answer.now ≡ 0
+      pick true inside = ap (λ (t : Lent). table_refusal n t.now) (legs_thaw e inside) ∙ tables.1
+      pick false outside = ap (λ (t : Lent). table_refusal n t.now) (legs_ordinary e outside) ∙ tables.0
 
-    -- of one place the part is empty too, so that the test "alone tells a refusal from a table of one place"
-    pub one_place : n ≡ 1 → refusal ≡ 0 → answer.now ≡ []
-    unfolding leg_count
-    one_place one e =
-        let run = (then_zero (run_refusal n (length answer.now)) _ (legs_accepted e)).0 in
-        drop_of_length-le answer.now {i = 0} (le_of_eq ((run_accepted n _ run).1 ∙ ap leg_count one))
+  -- of one place the part is empty too, so that the test "alone tells a refusal from a table of one place"
+  pub one_place : n ≡ 1 → refusal ≡ 0 → answer.now ≡ []
+  unfolding leg_count
+  one_place one e =
+      let run = (then_zero (run_refusal n (length answer.now)) _ (legs_accepted e)).0 in
+      drop_of_length-le answer.now {i = 0} (le_of_eq ((run_accepted n _ run).1 ∙ ap leg_count one))
 
 -- "in every year a date is inside or not by month, then day": dates of one month and day have the same table
-pub every_year : (n : ℕ) (ordinary thaw : Lent) (window : Window) (a b : Date) (name : GName) → day_of a ≡ day_of b
+pub every_year : (n : ℕ) (ordinary thaw : Lent) (window : Window) (a b : Date) → day_of a ≡ day_of b
     → season_refusal n ordinary.now thaw.now window a ≡ 0 → season_refusal n ordinary.now thaw.now window b ≡ 0
-    → legs_on n ordinary thaw window a name ≡ legs_on n ordinary thaw window b name
+    → legs_on n ordinary thaw window a ≡ legs_on n ordinary thaw window b
 unfolding legs_on
-every_year n ordinary thaw window a b name same p q = rw (p, q) (ap (λ (at : MonthDay). cond (inside_of window at) thaw ordinary) same)
+every_year n ordinary thaw window a b same p q = rw (p, q) (ap (λ (at : MonthDay). cond (inside_of window at) thaw ordinary) same)

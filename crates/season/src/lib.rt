@@ -65,7 +65,7 @@ pub fn legs<'a>(
     window: Window,
     date: Date,
 ) -> &'a [u32]
-    ensures { result ≡ legs_on places ordinary.entry thaw.entry window date result.name }
+    ensures { result ≡ legs_on places ordinary.entry thaw.entry window date }
 {
     let none = &ordinary[..0];
     let tested = test(places, ordinary, thaw, window, date);

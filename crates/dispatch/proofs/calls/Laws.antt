@@ -27,7 +27,7 @@ module _ {n : ℕ} {read : ℕ → ℕ → ℕ} {starts calls stands plan : List
     (follower plan') old (weight weights')) where
   pub call_taken : s ≡ least_end (length starts) (stops starts calls) taken.net_end (leg_at longer) → length calls < most_calls
       → plan_room ≤ length plan' → plan_room ≤ length weights' → Movable n read starts (calls ++ (r ∷ [])) stands plan' weights' longer
-  call_taken chosen space plan_long_lem weights_long_lem =
+  call_taken chosen space plan_long weights_long =
       let legible = movable.legible in
       let kept = movable.kept in
       let few = movable_few movable in
@@ -52,11 +52,11 @@ module _ {n : ℕ} {read : ℕ → ℕ → ℕ} {starts calls stands plan : List
                 ∙ inserted_vouched plan self taken chosen);
           };
           table = longer_table legible kept few long asked added;
-          plan_long_lem = omega arith;
-          weights_long_lem = omega arith;
+          plan_long = omega arith;
+          weights_long = omega arith;
         };
-        plan_long_lem = plan_long_lem;
-        weights_long_lem = weights_long_lem;
+        plan_long = plan_long;
+        weights_long = weights_long;
       }
 
 -- ---- one call after another

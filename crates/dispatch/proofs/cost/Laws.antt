@@ -22,8 +22,8 @@ use Rattle.dispatch.proofs.Carried.{sound_kept}
 use Rattle.dispatch.proofs.Roads.{sound_roads}
 use Rattle.dispatch.proofs.ends.Laws.{kept_copied, kept_movable, movable_least, ends_work, ends_floor}
 
-module _ {book : Book} {n : ℕ} {t : Table} (arrays : BookArrays book) (s : Sound book n t) (plan_long_lem : most_stops ≤ length book.plan)
-    (weights_long_lem : most_stops ≤ length book.weights) {plan : List ℕ} {weights : List ℤ} {costs : List ℕ}
+module _ {book : Book} {n : ℕ} {t : Table} (arrays : BookArrays book) (s : Sound book n t) (plan_long : most_stops ≤ length book.plan)
+    (weights_long : most_stops ≤ length book.weights) {plan : List ℕ} {weights : List ℤ} {costs : List ℕ}
     (followers : plan ≡ padded plan_room (stops_of book) (follower book.plan) 0)
     (weighed : weights ≡ padded plan_room (stops_of book) (weight book.weights) (pos 0))
     (table : LegTable most_places (entry (metres_of t)) (starts_of book) (requests_of book) (stands_of book) costs) where
@@ -48,7 +48,7 @@ module _ {book : Book} {n : ℕ} {t : Table} (arrays : BookArrays book) (s : Sou
       let one = plan_room_lem in
       let other = weights_room in
       kept_movable (sound_roads s).legible
-      (kept_copied (sound_kept arrays s plan_long_lem weights_long_lem table) plan weights (λ p h. same-follower p (rw long at h))
+      (kept_copied (sound_kept arrays s plan_long weights_long table) plan weights (λ p h. same-follower p (rw long at h))
       (λ b h. same-weight b (rw long at h)) (omega arith) (omega arith))
       (omega arith) (omega arith)
 

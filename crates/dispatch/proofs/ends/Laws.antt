@@ -42,8 +42,8 @@ use Rattle.dispatch.proofs.Taken.{leg_longer, kept_self, kept_plan, end_standing
 pub record Own (k : ℕ) (plan : List ℕ) (weights : List ℤ) : Type 0 where
   pub follows : (p : ℕ) → p < k → follower plan p ≡ p
   pub none : (b : ℕ) → b < k → weight weights b ≡ pos 0
-  pub plan_long_lem : plan_room ≤ length plan
-  pub weights_long_lem : plan_room ≤ length weights
+  pub plan_long : plan_room ≤ length plan
+  pub weights_long : plan_room ≤ length weights
 
 -- as they are made
 pub own_made : (k : ℕ) → k ≤ plan_room → {plan : List ℕ} {weights : List ℤ} → plan ≡ padded plan_room k (λ j. j) 0 → weights ≡ replicate plan_room (pos 0)
@@ -51,8 +51,8 @@ pub own_made : (k : ℕ) → k ≤ plan_room → {plan : List ℕ} {weights : Li
 own_made k few e z = record {
   follows = λ p h. rw e (get_or-padded plan_room k (λ j. j) 0 0 p h);
   none = λ b h. rw z (get_or-replicate plan_room b (pos 0) (pos 0) (omega arith));
-  plan_long_lem = rw e (le_of_eq (sym (length-padded plan_room k (λ j. j) 0 few)));
-  weights_long_lem = rw z (le_of_eq (sym (length-replicate plan_room (pos 0))));
+  plan_long = rw e (le_of_eq (sym (length-padded plan_room k (λ j. j) 0 few)));
+  weights_long = rw z (le_of_eq (sym (length-replicate plan_room (pos 0))));
 }
 
 module _ {n : ℕ} {d : ℕ → ℕ → ℕ} (self : (u : ℕ) → u < n → d u u ≡ 0) {starts plan : List ℕ} {weights : List ℤ} {costs : List ℕ}
@@ -71,8 +71,8 @@ module _ {n : ℕ} {d : ℕ → ℕ → ℕ} (self : (u : ℕ) → u < n → d u
       vouched = none_vouch (length starts) (weight weights) own.none (follower plan) (leg_cost d starts [] starts) own.follows own_way;
     });
     table = table;
-    plan_long_lem = omega (arith, own.plan_long_lem);
-    weights_long_lem = omega (arith, own.weights_long_lem);
+    plan_long = omega (arith, own.plan_long);
+    weights_long = omega (arith, own.weights_long);
   }
 
 -- ---- another plan with the same followers, and weights that are the same
@@ -81,7 +81,7 @@ pub kept_copied : {n : ℕ} {d : ℕ → ℕ → ℕ} {starts calls stands plan 
     → Kept n d starts calls stands plan weights costs → (plan' : List ℕ) (weights' : List ℤ)
     → ((p : ℕ) → p < stops starts calls → follower plan p ≡ follower plan' p) → ((b : ℕ) → b < stops starts calls → weight weights b ≡ weight weights' b)
     → most_stops ≤ length plan' → most_stops ≤ length weights' → Kept n d starts calls stands plan' weights' costs
-kept_copied {d = d} {starts} {calls} {stands} {plan} {weights} kept plan' weights' followers same plan_long_lem weights_long_lem =
+kept_copied {d = d} {starts} {calls} {stands} {plan} {weights} kept plan' weights' followers same plan_long weights_long =
     let c = kept.certified in
     record {
       asked = kept.asked;
@@ -94,8 +94,8 @@ kept_copied {d = d} {starts} {calls} {stands} {plan} {weights} kept plan' weight
             (plan_facts (length starts) (stops starts calls) (follower plan) c.planned).below followers same (λ p b h l. refl)) ∙ c.vouched;
       };
       table = kept.table;
-      plan_long_lem = plan_long_lem;
-      weights_long_lem = weights_long_lem;
+      plan_long = plan_long;
+      weights_long = weights_long;
     }
 
 -- the cranes at their stands, as a day without calls
@@ -124,7 +124,7 @@ module _ {n : ℕ} {d read : ℕ → ℕ → ℕ} (legible : Legible n d read) w
   -- a day under way may have its ends moved
   pub kept_movable : {starts calls stands plan : List ℕ} {weights : List ℤ} {costs : List ℕ} → Kept n d starts calls stands plan weights costs
       → plan_room ≤ length plan → plan_room ≤ length weights → Movable n read starts calls stands plan weights costs
-  kept_movable {starts} {calls} {stands} {plan} {weights} kept plan_long_lem weights_long_lem = record {
+  kept_movable {starts} {calls} {stands} {plan} {weights} kept plan_long weights_long = record {
     legible = read_legible;
     kept = record {
       asked = kept.asked;
@@ -137,11 +137,11 @@ module _ {n : ℕ} {d read : ℕ → ℕ → ℕ} (legible : Legible n d read) w
             kept.certified.planned (read_leg kept.asked.day kept.standing) ∙ kept.certified.vouched;
       };
       table = table_over kept.table (le_of_eq refl) (λ p x h l. sym (legible.reads _ x (stop_placed kept.asked.day p h) l));
-      plan_long_lem = kept.plan_long_lem;
-      weights_long_lem = kept.weights_long_lem;
+      plan_long = kept.plan_long;
+      weights_long = kept.weights_long;
     };
-    plan_long_lem = plan_long_lem;
-    weights_long_lem = weights_long_lem;
+    plan_long = plan_long;
+    weights_long = weights_long;
   }
 
 -- without calls each start is followed by itself, as it is made
@@ -151,7 +151,7 @@ pub own_movable : {n : ℕ} (t : Table) (starts : List ℕ) {plan : List ℕ} {w
     → Movable n (entry (metres_of t)) starts [] starts plan weights costs
 own_movable {n} t starts legible asked e z table =
     let own = own_made (length starts) (omega (arith, asked.cranes)) e z in
-    kept_movable legible (own_kept self asked (table_over table legible.few (λ p x h l. refl)) own) own.plan_long_lem own.weights_long_lem
+    kept_movable legible (own_kept self asked (table_over table legible.few (λ p x h l. refl)) own) own.plan_long own.weights_long
   where
     self : (u : ℕ) → u < n → entry (metres_of t) u u ≡ 0
     self u h = let on = le_trans h legible.few in read-in (metres_of t) u u on on ∙ metres_self t u u refl
@@ -181,7 +181,7 @@ module _ {n : ℕ} {read : ℕ → ℕ → ℕ} {starts calls stands plan : List
   movable_few = let asked = movable.kept.asked in omega (arith, asked.cranes, asked.few)
 
   pub movable_long : stops starts calls < length plan
-  movable_long = le_trans movable_few movable.plan_long_lem
+  movable_long = le_trans movable_few movable.plan_long
 
   -- the plan costs the least of all plans to its ends
   pub movable_least : plan_cost (stops starts calls) (leg_at costs) (follower plan)
@@ -221,7 +221,7 @@ module _ {n : ℕ} {read : ℕ → ℕ → ℕ} {starts calls stands plan : List
 
     pub end_moved : plan_room ≤ length plan' → plan_room ≤ length weights'
         → Movable n read starts calls (moved stands r e) plan'' (set weights' e (pos 0)) left
-    end_moved plan_long_lem weights_long_lem =
+    end_moved plan_long weights_long =
         let legible = movable.legible in
         let kept = movable.kept in
         let few = movable_few in
@@ -247,11 +247,11 @@ module _ {n : ℕ} {read : ℕ → ℕ → ℕ} {starts calls stands plan : List
                   (other_weight legible kept few long asked added weights' taken put most);
             };
             table = table_shrunk (left_table legible kept few long asked added weights' taken put) calls r there.cranes refl;
-            plan_long_lem = omega arith;
-            weights_long_lem = rw length-set most;
+            plan_long = omega arith;
+            weights_long = rw length-set most;
           };
-          plan_long_lem = omega arith;
-          weights_long_lem = rw length-set weights_long_lem;
+          plan_long = omega arith;
+          weights_long = rw length-set weights_long;
         }
 
 -- ---- one end after another

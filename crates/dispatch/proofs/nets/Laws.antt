@@ -47,7 +47,7 @@ module _ {book : Book} {n : ℕ} {t : Table} {r : ℕ} (arrays : BookArrays book
       let roads = sound_roads called.sound in
       let longer = call_last added in
       let few : stops (starts_of book) (requests_of book) < most_stops = kept_few kept (rw (requests_long fits) called.space) in
-      let long : stops (starts_of book) (requests_of book) < length book.plan = le_trans few kept.plan_long_lem in
+      let long : stops (starts_of book) (requests_of book) < length book.plan = le_trans few kept.plan_long in
       let most = rw (stops-long fits) at (kept_most roads kept few long called.on longer) in
       record {
         netted =

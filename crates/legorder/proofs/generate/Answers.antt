@@ -1,9 +1,8 @@
 -- `legorder::generate` meets its contract: once the legs to the places below v are written, the columns begin with them.
 -- Assumes nothing.
-use Prim.Native.Nat.{ℕ, ◌+◌, ◌-◌, ◌<◌, ◌≤◌, zero-le}
+use Prim.Native.Nat.{ℕ, ◌+◌, ◌<◌, ◌≤◌, zero-le}
 use mathlib.Core.List.{List, ◌++◌, append_assoc}
 use mathlib.Core.Path.{◌≡◌, refl, sym, ap, subst, ◌∙◌}
-use borrow.Author.Rules.{rules}
 use lib.ListN.{length, take, length-append}
 use lib.Seq.{take_all, take_at, length-take-le}
 use native.Mathlib.Nat.{le_antisymm}

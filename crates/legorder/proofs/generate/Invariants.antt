@@ -1,20 +1,10 @@
 -- `legorder::generate` meets its contract: once the legs to the places below v are written, the columns begin with them.
 -- Assumes nothing.
-use Prim.Native.Nat.{ℕ, ◌+◌, ◌-◌, ◌<◌, ◌≤◌, zero-le}
-use mathlib.Core.List.{List, ◌++◌, append_assoc}
-use mathlib.Core.Path.{◌≡◌, refl, sym, ap, subst, ◌∙◌}
-use borrow.Author.Rules.{rules}
-use lib.ListN.{length, take, length-append}
-use lib.Seq.{take_all, take_at, length-take-le}
-use native.Mathlib.Nat.{le_antisymm}
-use native.Mathlib.Omega.{arith}
-use Rattle.base.specs.Lists.{up_to, splice}
-use Rattle.base.proofs.Lists.{length-up_to, length-splice}
+use Prim.Native.Nat.{ℕ, ◌-◌, ◌≤◌}
+use mathlib.Core.List.{List}
+use mathlib.Core.Path.{◌≡◌}
+use lib.ListN.{length, take}
 use Rattle.road.specs.Table.{most_places, most_legs, leg_count, in_order}
-use Rattle.road.proofs.Order.{no_legs, all_legs, legs_before, leg_count_more, in_order_more, map-in_order}
-use Rattle.legorder.specs.declared.Columns.{Columns}
-use Rattle.legorder.specs.declared.Pair.{Pair}
-use Rattle.legorder.specs.Pairs.{leg_pair, pairs, columns_of}
 use Rattle.legorder.proofs.generate.Given as goal
 
 -- a column that begins with what f has for each leg to the places below v

@@ -1,12 +1,11 @@
 -- `legorder::fill::legs_to` meets its contract: the loop writes the places of the legs to v one behind another.
 -- Assumes nothing.
-use Prim.Native.Nat.{ℕ, ◌+◌, ◌-◌, ◌≤◌}
+use Prim.Native.Nat.{◌+◌, ◌≤◌}
 use mathlib.Core.Path.{◌≡◌, refl, ◌∙◌}
 use borrow.Author.Rules.{rules}
 use lib.ListN.{length}
 use native.Mathlib.Nat.{le_of_lt}
-use Rattle.base.specs.Lists.{up_to}
-use Rattle.base.proofs.Lists.{Spliced, splice_ended, entries_begun, entries_turned}
+use Rattle.base.proofs.Lists.{splice_ended, entries_begun, entries_turned}
 use Rattle.road.specs.Table.{leg_count}
 use Rattle.road.proofs.Order.{legs_counted}
 use Rattle.legorder.proofs.fill.legs_to.Goals as goal
@@ -48,9 +47,9 @@ bounds-seconds-from c = let h = seconds_fit (goal.at.bounds-seconds-from c).Afte
 
 pub loop-u-preserved : goal.loop-u-preserved
 loop-u-preserved c = (
-      entries_turned _ _ _ _ (firsts_fit (goal.at.loop-u-preserved c).After-legs-from) _ _ _ c.loop-u.invariant.0 c.loop-u-test.true refl,
-      entries_turned _ _ _ _ (seconds_fit (goal.at.loop-u-preserved c).After-legs-from) _ _ _ c.loop-u.invariant.1 c.loop-u-test.true refl,
-    )
+  entries_turned _ _ _ _ (firsts_fit (goal.at.loop-u-preserved c).After-legs-from) _ _ _ c.loop-u.invariant.0 c.loop-u-test.true refl,
+  entries_turned _ _ _ _ (seconds_fit (goal.at.loop-u-preserved c).After-legs-from) _ _ _ c.loop-u.invariant.1 c.loop-u-test.true refl,
+)
 
 pub returns : goal.returns
 returns c = rw (← counted (goal.at.returns c).After-legs-from)

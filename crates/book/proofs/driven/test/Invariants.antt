@@ -1,0 +1,21 @@
+-- `book::driven::test` meets its contract: the loop passes the cranes whose metres are within the most.
+-- Assumes nothing.
+use Prim.Native.Nat.{ℕ, ◌-◌}
+use mathlib.Core.Bool.{Bool}
+use mathlib.Core.List.{List}
+use borrow.Author.Rules.{rules}
+use borrow.Author.Tests.{le-leb, lt-leb}
+use lib.Dec.{leb}
+use lib.ListN.{length, get_or}
+use Rattle.base.proofs.Tests.{Passed, begun, turned, ended, below_fails}
+use Rattle.book.proofs.driven.test.Given as goal
+
+-- what the loop tests of each crane
+abbrev pub rule : ℕ → List ℕ → ℕ → Bool
+rule most driven j = leb (get_or driven j 0) most
+
+abbrev pub invariant-loop-j : goal.invariant-loop-j
+invariant-loop-j l = Passed (length l.driven) (rule l.most l.driven) l.j
+
+abbrev pub decreases-loop-j : goal.decreases-loop-j
+decreases-loop-j l = length l.driven - l.j

@@ -1,0 +1,18 @@
+-- `book::plan::count` meets its contract: the loop counts the stops below p that b follows.
+-- Assumes nothing.
+use Prim.Native.Nat.{◌-◌}
+use mathlib.Core.Logic.{⊎_elim}
+use borrow.Author.Rules.{rules}
+use borrow.Author.Tests.{eq-eqb, ne_eqb}
+use lib.Dec.{eqb}
+use native.Mathlib.Omega.{arith}
+use Rattle.workfunction.specs.Plan.{follows}
+use Rattle.workfunction.proofs.Counted.{Counted, count_begun, one_more, no_more, count_ended}
+use Rattle.book.specs.Book.{follower}
+use Rattle.book.proofs.plan.count.Given as goal
+
+abbrev pub invariant-loop-p : goal.invariant-loop-p
+invariant-loop-p l = Counted l.stops (λ i. eqb (follower l.plan i) l.b) l.found l.p
+
+abbrev pub decreases-loop-p : goal.decreases-loop-p
+decreases-loop-p l = l.stops - l.p

@@ -1,0 +1,23 @@
+-- `book::plan::test_followers` meets its contract: the loop passes the stops whose follower is in range and may follow them.
+-- Assumes nothing.
+use Prim.Native.Nat.{ℕ, ◌-◌}
+use mathlib.Core.Bool.{Bool, ◌&&◌}
+use mathlib.Core.List.{List}
+use borrow.Author.Rules.{rules}
+use lib.Dec.{ltb}
+use native.Mathlib.Omega.{arith}
+use Rattle.base.proofs.Numbers.{holds, stops}
+use Rattle.base.proofs.Tests.{Passed, begun, turned, ended, below_fails}
+use Rattle.workfunction.specs.Plan.{may_follow, followers_rule}
+use Rattle.book.specs.Book.{follower}
+use Rattle.book.proofs.plan.test_followers.Given as goal
+
+-- what the loop tests of each stop
+abbrev pub rule : ℕ → ℕ → List ℕ → ℕ → Bool
+rule cranes stops plan p = ltb (follower plan p) stops && may_follow cranes p (follower plan p)
+
+abbrev pub invariant-loop-p : goal.invariant-loop-p
+invariant-loop-p l = Passed l.stops (rule l.cranes l.stops l.plan) l.p
+
+abbrev pub decreases-loop-p : goal.decreases-loop-p
+decreases-loop-p l = l.stops - l.p

@@ -1,0 +1,29 @@
+-- `book::plan::test_once` meets its contract: the loop passes the calls and stands that follow exactly one stop.
+-- Assumes nothing.
+use Prim.Native.Nat.{ℕ, ◌-◌}
+use mathlib.Core.Bool.{Bool}
+use mathlib.Core.List.{List}
+use borrow.Author.Rules.{rules}
+use borrow.Author.Tests.{eq-eqb, ne_eqb}
+use lib.Dec.{eqb}
+use Rattle.base.proofs.Tests.{Passed, begun, turned, ended, below_fails}
+use Rattle.workfunction.specs.Lists.{sum_below}
+use Rattle.workfunction.specs.Plan.{follows, once_rule}
+use Rattle.book.specs.Book.{follower}
+use Rattle.book.proofs.plan.test_once.Invariants.{rule}
+use Rattle.book.proofs.plan.test_once.Goals as goal
+
+pub loop-b-init : goal.loop-b-init
+loop-b-init c = begun _ _
+
+pub returns-then-times-ne1 : goal.returns-then-times-ne1
+unfolding once_rule
+returns-then-times-ne1 c = let fails = ne_eqb _ 1 (rw c.count-times.ensures at c.if-times-ne1.true) in
+    rw (below_fails (rule c.args.stops c.args.plan.now) c.args.stops c.loop-b.b c.loop-b-test.true fails)
+
+pub loop-b-preserved : goal.loop-b-preserved
+loop-b-preserved c = turned _ _ c.loop-b.b c.loop-b.invariant c.loop-b-test.true (eq-eqb _ 1 (rw c.count-times.ensures at c.if-times-ne1.false))
+
+pub returns : goal.returns
+unfolding once_rule
+returns c = rw (ended _ _ c.loop-b.b c.loop-b.invariant c.loop-b-test.false)

@@ -1,0 +1,23 @@
+-- `book::plan::test_once` meets its contract: the loop passes the calls and stands that follow exactly one stop.
+-- Assumes nothing.
+use Prim.Native.Nat.{ℕ, ◌-◌}
+use mathlib.Core.Bool.{Bool}
+use mathlib.Core.List.{List}
+use borrow.Author.Rules.{rules}
+use borrow.Author.Tests.{eq-eqb, ne_eqb}
+use lib.Dec.{eqb}
+use Rattle.base.proofs.Tests.{Passed, begun, turned, ended, below_fails}
+use Rattle.workfunction.specs.Lists.{sum_below}
+use Rattle.workfunction.specs.Plan.{follows, once_rule}
+use Rattle.book.specs.Book.{follower}
+use Rattle.book.proofs.plan.test_once.Given as goal
+
+-- what the loop tests of each call and each stand
+abbrev pub rule : ℕ → List ℕ → ℕ → Bool
+rule stops plan b = eqb (sum_below stops (follows (follower plan) b)) 1
+
+abbrev pub invariant-loop-b : goal.invariant-loop-b
+invariant-loop-b l = Passed l.stops (rule l.stops l.plan) l.b
+
+abbrev pub decreases-loop-b : goal.decreases-loop-b
+decreases-loop-b l = l.stops - l.b

@@ -1,0 +1,24 @@
+-- `book::weights::test_range` meets its contract: the loop passes the weights within their range.
+-- Assumes nothing.
+use Prim.Native.Nat.{ℕ, ◌-◌}
+use mathlib.Core.Bool.{Bool}
+use mathlib.Core.List.{List}
+use mathlib.Core.Path.{◌≡◌}
+use borrow.Author.Rules.{rules}
+use lib.IntN.{ℤ}
+use Rattle.base.specs.Numbers.{number_of, unless}
+use Rattle.base.proofs.Numbers.{holds, stops}
+use Rattle.base.proofs.Tests.{Passed, begun, turned, ended, below_fails}
+use Rattle.book.specs.Book.{weight, weight_rule}
+use Rattle.book.proofs.Vouching.{read_back}
+use Rattle.book.proofs.weights.test_range.Given as goal
+
+-- what the loop tests of each weight
+abbrev pub rule : List ℤ → ℕ → Bool
+rule weights b = weight_rule (weight weights b)
+
+abbrev pub invariant-loop-i : goal.invariant-loop-i
+invariant-loop-i l = Passed l.stops (rule l.weights) l.i
+
+abbrev pub decreases-loop-i : goal.decreases-loop-i
+decreases-loop-i l = l.stops - l.i

@@ -1,0 +1,30 @@
+-- `book::weights::test_vouching` meets its contract: the loop passes the stops p whose inequality holds for every b that may follow it.
+-- Assumes nothing.
+use Prim.Native.Nat.{ℕ, ◌-◌}
+use mathlib.Core.Bool.{Bool}
+use mathlib.Core.List.{List}
+use borrow.Author.Rules.{rules}
+use lib.IntN.{ℤ}
+use lib.ListN.{length}
+use Rattle.base.specs.Tests.{all_below}
+use Rattle.base.proofs.Numbers.{turns, stops_below}
+use Rattle.base.proofs.Tests.{Passed, begun, ended}
+use Rattle.road.specs.Table.{Table, metres_of, entry}
+use Rattle.workfunction.specs.Plan.{vouch_at, vouch_rule, leg_cost}
+use Rattle.book.specs.Book.{follower, weight}
+use Rattle.book.proofs.weights.test_vouching.Invariants.{rule}
+use Rattle.book.proofs.weights.test_vouching.Goals as goal
+
+pub loop-p-init : goal.loop-p-init
+loop-p-init c = begun _ _
+
+pub returns-in_default : goal.returns-in_default
+unfolding vouch_rule
+returns-in_default c = stops_below _ c.in_default.field-0 c.in_default.is _ _ 10 _ c.test_from-vouched.ensures c.loop-p-test.true
+
+pub loop-p-preserved : goal.loop-p-preserved
+loop-p-preserved c = turns _ _ _ 9 _ c.in-Accepted.is c.test_from-vouched.ensures c.loop-p-test.true c.loop-p.invariant
+
+pub returns : goal.returns
+unfolding vouch_rule
+returns c = rw (ended _ _ c.loop-p.p c.loop-p.invariant c.loop-p-test.false)

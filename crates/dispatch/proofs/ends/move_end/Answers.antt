@@ -1,0 +1,70 @@
+-- `dispatch::ends::move_end` meets its contract: the call by which the end is moved has room, is taken in for the end, and goes again.
+-- Assumes nothing.
+use Prim.Native.Nat.{◌<◌}
+use borrow.Author.Rules.{rules}
+use native.Mathlib.Nat.{le_trans}
+use native.Mathlib.Omega.{arith}
+use Rattle.road.specs.Table.{most_places}
+use Rattle.dayfile.specs.Day.{most_cranes}
+use Rattle.workfunction.specs.Plan.{stops}
+use Rattle.dispatch.specs.Legs.{plan_room}
+use Rattle.dispatch.proofs.Taken.{kept_witnessed}
+use Rattle.dispatch.proofs.ends.Laws.{movable_few, movable_long, sent_taken, end_moved}
+use Rattle.dispatch.proofs.ends.move_end.Goals as goal
+use Rattle.dispatch.proofs.ends.move_end.Goals.{Start}
+
+-- there is room for the call
+few : (c : Start) → stops c.args.starts.now c.args.calls.now < plan_room
+few c = movable_few c.requires.movable
+
+-- the end is one of the cranes
+end_low : (c : Start) → c.args.end < most_cranes
+end_low c = le_trans c.requires.end c.requires.movable.kept.asked.cranes
+
+-- the call is at a place that has a row
+on_road : (c : Start) → c.args.place < most_places
+on_road c = le_trans c.requires.on c.requires.movable.legible.few
+
+pub extend-requires : goal.extend-requires
+extend-requires c = (few (goal.at.extend-requires c).Start, (on_road (goal.at.extend-requires c).Start, c.requires.movable.kept.table.costed))
+
+pub insert-requires : goal.insert-requires
+insert-requires c = record {
+      crane = c.requires.movable.kept.asked.day.crane;
+      cranes = c.requires.movable.kept.asked.cranes;
+      stops = omega arith;
+      ends = λ e h. c.requires.end;
+      plan_long = movable_long c.requires.movable;
+      weights_long = le_trans (few (goal.at.insert-requires c).Start) c.requires.movable.weights_long;
+      costed = c.extend.ensures.costed;
+      witnessed = kept_witnessed c.requires.movable.legible c.requires.movable.kept (few (goal.at.insert-requires c).Start) (movable_long c.requires.movable) c.requires.on c.extend.ensures;
+    }
+
+pub overflow_cast-stops : goal.overflow_cast-stops
+overflow_cast-stops c = let room = few (goal.at.overflow_cast-stops c).Start in omega arith
+
+pub overflow_cast-end : goal.overflow_cast-end
+overflow_cast-end c = let low = end_low (goal.at.overflow_cast-end c).Start in omega arith
+
+pub replace-requires : goal.replace-requires
+replace-requires c = let room = few (goal.at.replace-requires c).Start in
+    search rules
+
+pub offset_bounds-weights-end : goal.offset_bounds-weights-end
+offset_bounds-weights-end c = let low = end_low (goal.at.offset_bounds-weights-end c).Start in search rules
+
+pub slice_set_of-weights : goal.slice_set_of-weights
+slice_set_of-weights c = let low = end_low (goal.at.slice_set_of-weights c).Start in
+    search rules
+
+pub put-requires : goal.put-requires
+put-requires c = let low = end_low (goal.at.put-requires c).Start in
+    (omega arith, (on_road (goal.at.put-requires c).Start, c.extend.ensures.costed))
+
+pub returns : goal.returns
+returns c = record {
+      there = λ n stands movable on.
+          end_moved movable on c.extend.ensures c.insert.new.plan c.insert.new.weights
+          (sent_taken c.insert.ensures.chosen c.insert.ensures.taken) c.put.ensures c.replace.ensures
+          (omega (arith, c.insert.auto, movable.plan_long)) (omega (arith, c.insert.auto, movable.weights_long));
+    }

@@ -1,0 +1,17 @@
+-- `dispatch::legs::fill_from` meets its contract: the loop fills the row from the front. Assumes nothing.
+use Prim.Native.Nat.{◌-◌}
+use mathlib.Core.List.{append-nil}
+use mathlib.Core.Path.{◌∙◌}
+use borrow.Author.Rules.{rules}
+use lib.ListN.{length, get_or}
+use lib.Seq.{drop-length}
+use native.Mathlib.Omega.{arith}
+use Rattle.base.proofs.Lists.{Filled, fill_begun, fill_turned, fill_ended}
+use Rattle.road.specs.Table.{metres_of, entry}
+use Rattle.dispatch.proofs.legs.fill_from.Given as goal
+
+abbrev pub invariant-loop-p : goal.invariant-loop-p
+invariant-loop-p l = Filled (λ i. entry (metres_of l.table) (get_or l.places i 0) l.to) l.initial.row (length l.initial.row) l.row l.p
+
+abbrev pub decreases-loop-p : goal.decreases-loop-p
+decreases-loop-p l = length l.initial.row - l.p

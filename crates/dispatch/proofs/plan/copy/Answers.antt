@@ -1,0 +1,18 @@
+-- `dispatch::plan::copy` meets its contract: the loop fills the list from the front. Assumes nothing.
+use Prim.Native.Nat.{◌-◌}
+use mathlib.Core.Path.{refl}
+use borrow.Author.Rules.{rules}
+use lib.ListN.{replicate}
+use Rattle.base.proofs.Lists.{Filled, fill_begun, fill_turned, fill_padded}
+use Rattle.book.specs.Book.{follower}
+use Rattle.dispatch.specs.Legs.{plan_room}
+use Rattle.dispatch.proofs.plan.copy.Goals as goal
+
+pub loop-i-init : goal.loop-i-init
+loop-i-init c = fill_begun _ _ _
+
+pub loop-i-preserved : goal.loop-i-preserved
+loop-i-preserved c = fill_turned _ _ _ _ _ _ (search rules) c.loop-i.invariant c.loop-i-test.true refl
+
+pub returns : goal.returns
+returns c = fill_padded _ plan_room _ 0 _ _ c.loop-i.invariant c.loop-i-test.false

@@ -1,0 +1,15 @@
+-- `dispatch::plan::copy` meets its contract: the loop fills the list from the front. Assumes nothing.
+use Prim.Native.Nat.{◌-◌}
+use mathlib.Core.Path.{refl}
+use borrow.Author.Rules.{rules}
+use lib.ListN.{replicate}
+use Rattle.base.proofs.Lists.{Filled, fill_begun, fill_turned, fill_padded}
+use Rattle.book.specs.Book.{follower}
+use Rattle.dispatch.specs.Legs.{plan_room}
+use Rattle.dispatch.proofs.plan.copy.Given as goal
+
+abbrev pub invariant-loop-i : goal.invariant-loop-i
+invariant-loop-i l = Filled (follower l.from) (replicate plan_room 0) l.count l.list l.i
+
+abbrev pub decreases-loop-i : goal.decreases-loop-i
+decreases-loop-i l = l.count - l.i

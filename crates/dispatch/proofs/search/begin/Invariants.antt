@@ -1,0 +1,25 @@
+-- `dispatch::search::begin` meets its contract: the loop fills the lists from the front, and then the new call is settled.
+-- Assumes nothing.
+use Prim.Native.Nat.{ℕ, ◌+◌, ◌-◌, ◌<◌}
+use mathlib.Core.List.{List}
+use mathlib.Core.Path.{refl, ◌∙◌}
+use borrow.Author.Rules.{rules}
+use lib.ListN.{length, set}
+use lib.Seq.{get_or-set_same, get_or-set_other}
+use native.Mathlib.Omega.{arith}
+use Rattle.base.proofs.Lists.{Filled, fill_begun, fill_turned, filled_at}
+use Rattle.dispatch.specs.Legs.{plan_room, leg_at}
+use Rattle.dispatch.specs.Search.{at, net_base, Begun}
+use Rattle.dispatch.proofs.search.begin.Given as goal
+
+-- the first entries are filled
+pub record Beginning (new : ℕ) (row : ℕ → ℕ) (totals₀ parents₀ ranks₀ totals parents ranks : List ℕ) (p : ℕ) : Type 0 where
+  pub totalled : Filled (λ v. net_base + row v) totals₀ (new + 1) totals p
+  pub parented : Filled (λ v. new) parents₀ (new + 1) parents p
+  pub ranked : Filled (λ v. plan_room) ranks₀ (new + 1) ranks p
+
+abbrev pub invariant-loop-p : goal.invariant-loop-p
+invariant-loop-p l = Beginning l.new (λ v. leg_at l.costs v l.new) l.initial.totals l.initial.parents l.initial.ranks l.totals l.parents l.ranks l.p
+
+abbrev pub decreases-loop-p : goal.decreases-loop-p
+decreases-loop-p l = l.new + 1 - l.p

@@ -1,0 +1,23 @@
+-- `dispatch::search::fill_heads` meets its contract: the loop fills the heads from the front. Assumes nothing.
+use Prim.Native.Nat.{ℕ, ◌-◌, ◌<◌}
+use mathlib.Core.List.{List}
+use mathlib.Core.Path.{◌∙◌}
+use borrow.Author.Rules.{rules}
+use lib.IntN.{ℤ}
+use native.Mathlib.Omega.{arith}
+use Rattle.base.proofs.Lists.{Filled, fill_begun, fill_turned, filled_at}
+use Rattle.book.specs.Book.{follower, weight}
+use Rattle.dispatch.specs.Legs.{leg_at}
+use Rattle.dispatch.specs.Search.{head_of}
+use Rattle.book.proofs.Vouching.{read_back}
+use Rattle.dispatch.proofs.search.fill_heads.Given as goal
+
+-- the head of each stop
+abbrev pub rule : List ℕ → List ℤ → List ℕ → ℕ → ℕ
+rule plan weights costs p = head_of (weight weights (follower plan p)) (leg_at costs p (follower plan p))
+
+abbrev pub invariant-loop-p : goal.invariant-loop-p
+invariant-loop-p l = Filled (rule l.plan l.weights l.costs) l.initial.heads l.new l.heads l.p
+
+abbrev pub decreases-loop-p : goal.decreases-loop-p
+decreases-loop-p l = l.new - l.p

@@ -1,0 +1,30 @@
+-- `dispatch::search::relax` meets its contract: the loop has done its work on the stops below p. Assumes nothing.
+use Prim.Native.Nat.{ℕ, ◌+◌, ◌-◌, ◌<◌, ◌≤◌}
+use mathlib.Core.List.{List}
+use mathlib.Core.Logic.{◌⊎◌, inl, inr, ⊎_elim}
+use mathlib.Core.Path.{◌≡◌, refl, ◌∙◌}
+use borrow.Author.Rules.{rules}
+use lib.ListN.{length, set, length-set}
+use lib.Seq.{get_or-set_same, get_or-set_other}
+use native.Mathlib.Decide.{ℕ_discrete}
+use native.Mathlib.Nat.{le_antisymm}
+use native.Mathlib.Omega.{arith}
+use Rattle.dispatch.specs.Search.{at, Unbettered, Bettered, Relaxed}
+use Rattle.dispatch.proofs.search.relax.Invariants.{Relaxing, relax_begun, relax_ended, Way, untouched, relax_kept, relax_taken}
+use Rattle.dispatch.proofs.search.relax.Goals as goal
+use Rattle.dispatch.proofs.search.relax.Goals.{else-total-totals, then-total-totals}
+
+pub loop-p-init : goal.loop-p-init
+loop-p-init c = relax_begun _ _ _ _ _
+
+pub overflow_cast-total : goal.overflow_cast-total
+overflow_cast-total c = omega (arith, c.shared_slice_known-1.given c.loop-p.p)
+
+pub overflow_add-total : goal.overflow_add-total
+overflow_add-total c = omega (arith, c.shared_slice_known-1.given c.loop-p.p)
+
+pub loop-p-preserved : goal.loop-p-preserved
+loop-p-preserved c = elim c.if-total-totals.branch [ then-total-totals w ↦ rw (w.totals-is, w.parents-is) (relax_taken _ _ _ _ _ c.loop-p.invariant c.loop-p-test.true c.requires.0 c.requires.1.0 w.if-total-totals.true) | else-total-totals w ↦ rw (w.totals-is, w.parents-is) (relax_kept _ _ _ _ _ c.loop-p.invariant c.loop-p-test.true w.if-total-totals.false) ]
+
+pub returns : goal.returns
+returns c = relax_ended _ _ _ _ _ c.loop-p.invariant c.loop-p-test.false

@@ -1,0 +1,139 @@
+-- `dispatch::search::rounds` meets its contract: each round settles an open stop of least key, which keeps the invariant.
+-- Assumes nothing.
+use Prim.Native.Nat.{ℕ, ◌+◌, ◌-◌, ◌<◌, ◌≤◌}
+use mathlib.Core.List.{List}
+use mathlib.Core.Path.{◌≡◌, refl, sym}
+use borrow.Author.Rules.{rules}
+use lib.ListN.{length, set, take}
+use lib.Seq.{length-take-le, get_or-take, get_or-set_same, get_or-set_other}
+use native.Mathlib.Omega.{arith}
+use Rattle.book.specs.Book.{follower}
+use Rattle.dispatch.specs.Legs.{leg_at}
+use Rattle.dispatch.specs.Search.{at, Keyed, Nearest}
+use Rattle.dispatch.proofs.search.Laws.{Stored, Least, Listed, Settling, listed_begun, listed_least, listed_turned, search_begun, search_turned, search_ended, leg-within, keys_low}
+use Rattle.dispatch.proofs.search.rounds.Invariants.{Rounding}
+use Rattle.dispatch.proofs.search.rounds.Goals as goal
+use Rattle.dispatch.proofs.search.rounds.Goals.{After-pick-i}
+
+set_stored : (l : List ℕ) (i x : ℕ) → i < length l → Stored i x (at l) (at (set l i x))
+set_stored l i x lt = record { here = get_or-set_same l i x 0 lt; others = λ j ne. get_or-set_other l i j x 0 ne }
+
+-- ---- the stops lent to `pick`: the first n
+module _ (stops heads totals : List ℕ) (n left : ℕ) (all : n ≡ left) (fits : n ≤ length stops) where
+  first : length (take n stops) ≡ n
+  first = length-take-le n stops fits
+
+  lent_keyed : ((i : ℕ) → i < left → at stops i < length heads) → ((i : ℕ) → i < left → at stops i < length totals)
+      → ((i : ℕ) → i < left → at totals (at stops i) + at heads (at stops i) < 9223372036854775808) → Keyed (take n stops) heads totals
+  lent_keyed headed totalled low =
+      let long = first in
+      record {
+        headed = λ i lt. rw (get_or-take n stops i 0 (omega arith)) (headed i (omega arith));
+        totalled = λ i lt. rw (get_or-take n stops i 0 (omega arith)) (totalled i (omega arith));
+        low = λ i lt. rw (get_or-take n stops i 0 (omega arith)) (low i (omega arith));
+      }
+
+  lent_nearest : {i : ℕ} → Nearest (length (take n stops)) (at (take n stops)) (at heads) (at totals) i
+      → Nearest left (at stops) (at heads) (at totals) i
+  lent_nearest {i} near =
+      let long = first in
+      let lt = near.below in
+      record {
+        below = omega arith;
+        least = λ j less. rw (get_or-take n stops i 0 (omega arith), get_or-take n stops j 0 (omega arith)) at (near.least j (omega arith));
+      }
+
+-- where the stop that is picked stands
+near : (c : After-pick-i) → Nearest (c.args.new + 1 - c.loop-rank.rank) (at c.loop-rank.stops) (at c.args.heads.now) (at c.loop-rank.totals) c.pick-i.result
+near c =
+    lent_nearest c.loop-rank.stops c.args.heads.now c.loop-rank.totals (c.args.new - c.loop-rank.rank + 1) (c.args.new + 1 - c.loop-rank.rank) (omega arith)
+    ((omega arith)) c.pick-i.ensures
+
+-- the stop that is picked
+picked : (c : After-pick-i) → Least c.args.new (at c.args.heads.now) (at c.loop-rank.totals) (at c.loop-rank.ranks) (at c.loop-rank.stops c.pick-i.result)
+picked c = listed_least c.loop-rank.invariant.listed (near c)
+
+pub loop-rank-init : goal.loop-rank-init
+loop-rank-init c = record {
+      stopped = refl;
+      totalled = refl;
+      parented = refl;
+      ranked = refl;
+      started = omega arith;
+      listed = listed_begun (omega arith) c.requires.opened c.requires.begun.unsettled;
+      settling = search_begun c.requires.ready c.requires.begun;
+    }
+
+pub slice_bounds-pick-end : goal.slice_bounds-pick-end
+slice_bounds-pick-end c = omega arith
+
+pub slice_bounds-pick-end-in-loop-rank : goal.slice_bounds-pick-end-in-loop-rank
+slice_bounds-pick-end-in-loop-rank c = sym (length-take-le _ _ ((omega arith)))
+
+pub pick-i-requires : goal.pick-i-requires
+pick-i-requires c = let n = c.args.new - c.loop-rank.rank + 1 in
+    let fits : n ≤ length c.loop-rank.stops = omega arith in
+    let long = length-take-le n c.loop-rank.stops fits in (
+      omega arith,
+      lent_keyed c.loop-rank.stops c.args.heads.now c.loop-rank.totals n (c.args.new + 1 - c.loop-rank.rank) (omega arith) fits
+          (λ j lt. let b = c.loop-rank.invariant.listed.below j lt in omega arith)
+          (λ j lt. let b = c.loop-rank.invariant.listed.below j lt in omega arith)
+          (λ j lt. keys_low c.requires.ready c.loop-rank.invariant.settling _ (c.loop-rank.invariant.listed.below j lt)),
+    )
+
+pub offset_bounds-stops-i : goal.offset_bounds-stops-i
+offset_bounds-stops-i c = omega (arith, near (goal.at.offset_bounds-stops-i c).After-pick-i)
+
+pub bounds-stops-i : goal.bounds-stops-i
+bounds-stops-i c = omega (arith, near (goal.at.bounds-stops-i c).After-pick-i)
+
+pub overflow_cast-q : goal.overflow_cast-q
+overflow_cast-q c = omega (arith, picked (goal.at.overflow_cast-q c).After-pick-i)
+
+pub bounds-stops-left : goal.bounds-stops-left
+bounds-stops-left c = omega arith
+
+pub offset_bounds-stops-i-in-loop-rank : goal.offset_bounds-stops-i-in-loop-rank
+offset_bounds-stops-i-in-loop-rank c = omega (arith, near (goal.at.offset_bounds-stops-i-in-loop-rank c).After-pick-i)
+
+pub bounds-stops-i-in-loop-rank : goal.bounds-stops-i-in-loop-rank
+bounds-stops-i-in-loop-rank c = omega (arith, near (goal.at.bounds-stops-i-in-loop-rank c).After-pick-i)
+
+pub offset_bounds-ranks-q : goal.offset_bounds-ranks-q
+offset_bounds-ranks-q c = omega (arith, picked (goal.at.offset_bounds-ranks-q c).After-pick-i)
+
+pub bounds-ranks-q : goal.bounds-ranks-q
+bounds-ranks-q c = omega (arith, picked (goal.at.bounds-ranks-q c).After-pick-i)
+
+pub settle-requires : goal.settle-requires
+settle-requires c = let lt = (picked (goal.at.settle-requires c).After-pick-i).below in
+    record {
+      few = c.requires.ready.most;
+      stop = lt;
+      follows = c.requires.ready.below _ lt;
+      planned = omega arith;
+      costed = c.requires.sized.costed;
+      totalled = omega arith;
+      parented = omega arith;
+      leg = leg-within c.requires.ready c.loop-rank.invariant.settling _ (omega arith);
+      most = c.loop-rank.invariant.settling.high _ (omega arith);
+    }
+
+pub loop-rank-preserved : goal.loop-rank-preserved
+loop-rank-preserved c = let left = c.args.new - c.loop-rank.rank in
+    let moved = set_stored c.loop-rank.stops c.pick-i.result (at c.loop-rank.stops left) ((omega (arith, near (goal.at.loop-rank-preserved c).After-pick-i))) in
+    let fewer : c.args.new + 1 - (c.loop-rank.rank + 1) ≡ left = omega arith in
+    let stored = set_stored c.loop-rank.ranks (at c.loop-rank.stops c.pick-i.result) c.loop-rank.rank ((omega (arith, picked (goal.at.loop-rank-preserved c).After-pick-i))) in
+    record {
+      stopped = search rules;
+      totalled = search rules;
+      parented = search rules;
+      ranked = search rules;
+      started = omega arith;
+      listed = rw fewer (listed_turned c.loop-rank.invariant.listed (omega arith) (near (goal.at.loop-rank-preserved c).After-pick-i).below (omega arith) moved stored);
+      settling = search_turned c.requires.ready c.loop-rank.invariant.settling c.loop-rank-test.true (picked (goal.at.loop-rank-preserved c).After-pick-i) stored c.settle.ensures;
+    }
+
+pub returns : goal.returns
+returns c = search_ended c.requires.ready c.loop-rank.invariant.settling c.loop-rank-test.false
+    (λ p lt o. let h = (c.loop-rank.invariant.listed.every p lt o).1.0 in absurd (omega arith))

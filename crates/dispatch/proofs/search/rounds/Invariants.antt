@@ -1,0 +1,30 @@
+-- `dispatch::search::rounds` meets its contract: each round settles an open stop of least key, which keeps the invariant.
+-- Assumes nothing.
+use Prim.Native.Nat.{ℕ, ◌+◌, ◌-◌, ◌<◌, ◌≤◌}
+use mathlib.Core.List.{List}
+use mathlib.Core.Path.{◌≡◌, refl, sym}
+use borrow.Author.Rules.{rules}
+use lib.ListN.{length, set, take}
+use lib.Seq.{length-take-le, get_or-take, get_or-set_same, get_or-set_other}
+use native.Mathlib.Omega.{arith}
+use Rattle.book.specs.Book.{follower}
+use Rattle.dispatch.specs.Legs.{leg_at}
+use Rattle.dispatch.specs.Search.{at, Keyed, Nearest}
+use Rattle.dispatch.proofs.search.Laws.{Stored, Least, Listed, Settling, listed_begun, listed_least, listed_turned, search_begun, search_turned, search_ended, leg-within, keys_low}
+use Rattle.dispatch.proofs.search.rounds.Given as goal
+
+-- the invariant, of lists that keep their lengths
+pub record Rounding (k N : ℕ) (plan heads costs stops₀ totals₀ parents₀ ranks₀ stops totals parents ranks : List ℕ) (i : ℕ) : Type 0 where
+  pub stopped : length stops ≡ length stops₀
+  pub totalled : length totals ≡ length totals₀
+  pub parented : length parents ≡ length parents₀
+  pub ranked : length ranks ≡ length ranks₀
+  pub started : 1 ≤ i
+  pub listed : Listed N (N + 1 - i) (at stops) (at ranks)
+  pub settling : Settling k N (follower plan) (leg_at costs) (at heads) i (at totals) (at parents) (at ranks)
+
+abbrev pub invariant-loop-rank : goal.invariant-loop-rank
+invariant-loop-rank l = Rounding l.cranes l.new l.plan l.heads l.costs l.initial.stops l.initial.totals l.initial.parents l.initial.ranks l.stops l.totals l.parents l.ranks l.rank
+
+abbrev pub decreases-loop-rank : goal.decreases-loop-rank
+decreases-loop-rank l = l.new + 1 - l.rank

@@ -1,0 +1,87 @@
+-- `dispatch::weights::renew` meets its contract: each follower follows one stop, so that no weight is renewed twice.
+-- Assumes nothing.
+use Prim.Native.Nat.{ℕ, ◌+◌, ◌-◌, ◌<◌, ◌≤◌}
+use mathlib.Core.List.{List}
+use mathlib.Core.Path.{◌≡◌, refl, ◌∙◌}
+use borrow.Author.Rules.{rules}
+use lib.IntN.{ℤ, pos, neg_ℤ, ◌-ℤ◌, +ℤ_idl}
+use lib.ListN.{length, set, length-set}
+use lib.Seq.{get_or-set_same, get_or-set_other}
+use mir.Syntax.{w64}
+use mir.Val.{SFits, to_z, of_z}
+use mir.ValLaws.{to_z-of_z}
+use native.Mathlib.Omega.{arith}
+use Rattle.base.proofs.Signed.{neg_difference, difference_fits}
+use Rattle.base.proofs.Tests.{one_more}
+use Rattle.road.specs.Table.{most_metres}
+use Rattle.book.specs.Book.{follower, weight}
+use Rattle.dispatch.specs.Legs.{leg_at}
+use Rattle.dispatch.specs.Search.{at, net_base, net_of, Totalled, Matched, Reweighed}
+use Rattle.dispatch.proofs.weights.renew.Invariants.{Renewing, renew_begun, renew_turned, renew_ended}
+use Rattle.dispatch.proofs.weights.renew.Goals as goal
+use Rattle.dispatch.proofs.weights.renew.Goals.{After-net_cost-net, In-loop-p}
+
+-- the opposite of a net cost, as the machine makes it and reads it back
+module _ (net : ℕ) (h : net ≤ net_base + most_metres) {z : ℤ} (e : z ≡ pos net -ℤ pos net_base) where
+  fits : SFits w64 (neg_ℤ (pos net -ℤ pos net_base))
+  fits = rw (neg_difference (pos net) (pos net_base)) (difference_fits net_base net (omega arith) (omega arith))
+
+  opposite : pos 0 -ℤ to_z w64 (of_z w64 z) ≡ neg_ℤ (pos net -ℤ pos net_base)
+  opposite =
+      let near = difference_fits net net_base (omega arith) (omega arith) in
+      rw (e, to_z-of_z w64 (pos net -ℤ pos net_base) near) (+ℤ_idl (neg_ℤ (pos net -ℤ pos net_base)))
+
+  opposite_fits : SFits w64 (pos 0 -ℤ to_z w64 (of_z w64 z))
+  opposite_fits = rw opposite fits
+
+  opposite_read : to_z w64 (of_z w64 (pos 0 -ℤ to_z w64 (of_z w64 z))) ≡ neg_ℤ (pos net -ℤ pos net_base)
+  opposite_read = rw opposite (to_z-of_z w64 (neg_ℤ (pos net -ℤ pos net_base)) fits)
+
+-- the follower of p is in range
+follower_on : (c : In-loop-p) → follower c.args.plan.now c.loop-p.p ≤ c.args.new
+follower_on c = c.requires.matched.below c.loop-p.p c.loop-p-test.true
+
+-- what is known of p's total
+totalled : (c : In-loop-p) → Totalled c.args.new (follower c.args.plan.now) (leg_at c.args.costs.now) (at c.args.totals.now)
+totalled c = c.requires.totalled
+
+-- its net cost
+abbrev net-of : In-loop-p → ℕ
+net-of c =
+    net_of (follower c.args.plan.now) (leg_at c.args.costs.now) (at c.args.totals.now) c.loop-p.p
+
+net_low : (c : In-loop-p) → net-of c ≤ net_base + most_metres
+net_low c = omega (arith, (totalled c).most c.loop-p.p c.loop-p-test.true)
+
+-- the call's result is that
+called : (c : After-net_cost-net) → c.net_cost-net.result ≡ pos (net_of (follower c.args.plan.now) (leg_at c.args.costs.now) (at c.args.totals.now) c.loop-p.p) -ℤ pos net_base
+called c = rw (← c.cost.ensures) c.net_cost-net.ensures
+
+pub loop-p-init : goal.loop-p-init
+loop-p-init c = renew_begun _ _ _ _
+
+pub overflow_cast-b : goal.overflow_cast-b
+overflow_cast-b c = omega (arith, follower_on (goal.at.overflow_cast-b c).In-loop-p, c.requires.few)
+
+pub cost-requires : goal.cost-requires
+cost-requires c = (omega (arith, c.loop-p-test, c.requires.few), (omega (arith, follower_on (goal.at.cost-requires c).In-loop-p, c.requires.few), c.requires.costed))
+
+pub net_cost-net-requires : goal.net_cost-net-requires
+net_cost-net-requires c = let t = totalled (goal.at.net_cost-net-requires c).In-loop-p in
+    (rw c.cost.ensures (t.legs c.loop-p.p c.loop-p-test.true), t.most c.loop-p.p c.loop-p-test.true)
+
+pub overflow_sub-weights : goal.overflow_sub-weights
+overflow_sub-weights c = opposite_fits _ (net_low (goal.at.overflow_sub-weights c).In-loop-p) (called (goal.at.overflow_sub-weights c).After-net_cost-net)
+
+pub offset_bounds-weights-b : goal.offset_bounds-weights-b
+offset_bounds-weights-b c = omega (arith, follower_on (goal.at.offset_bounds-weights-b c).In-loop-p, c.requires.few)
+
+pub bounds-weights-b : goal.bounds-weights-b
+bounds-weights-b c = omega (arith, follower_on (goal.at.bounds-weights-b c).In-loop-p, c.requires.weighed, c.loop-p.invariant.weighed)
+
+pub loop-p-preserved : goal.loop-p-preserved
+loop-p-preserved c = renew_turned _ _ _ _ c.requires.weighed c.loop-p.invariant c.requires.matched c.loop-p-test.true
+    (opposite_read _ (net_low (goal.at.loop-p-preserved c).In-loop-p) (called (goal.at.loop-p-preserved c).After-net_cost-net))
+
+pub returns : goal.returns
+returns c = renew_ended _ _ _ _ c.requires.weighed c.loop-p.invariant c.loop-p-test.false

@@ -1,0 +1,20 @@
+-- `sheet::rows::put` meets its contract: the rows are written one behind another.
+-- Assumes nothing.
+use Prim.Native.Nat.{◌-◌}
+use mathlib.Core.List.{flat_map}
+use mathlib.Core.Path.{sym, subst}
+use borrow.Author.Rules.{rules}
+use lib.ListN.{length}
+use native.Mathlib.Omega.{arith}
+use Rattle.base.specs.Lists.{up_to}
+use Rattle.base.proofs.Lists.{Spliced, splice_ended}
+use Rattle.sheet.specs.Row.{row_bytes, Fits}
+use Rattle.sheet.specs.Sheet.{row_at}
+use Rattle.sheet.proofs.rows.Laws.{rows_begun, rows_turned, numbered}
+use Rattle.sheet.proofs.rows.put.Given as goal
+
+abbrev pub invariant-loop-i : goal.invariant-loop-i
+invariant-loop-i l = Spliced (λ k. flat_map row_bytes (up_to k (row_at l.requests l.cranes l.metres l.leasts))) 0 l.initial.out (length l.requests) l.out l.i
+
+abbrev pub decreases-loop-i : goal.decreases-loop-i
+decreases-loop-i l = length l.requests - l.i
