@@ -7,4 +7,7 @@ use Rattle.report.proofs.print.Goals as goal
 
 pub returns : goal.returns
 unfolding print_of
-returns c = (c.text_of.ensures, text_within c.text_of.result (print_of c.args.file.now) c.text_of.ensures (print_fits _) (search rules))
+returns c = record {
+  value = c.text_of.ensures;
+  prefix_len = text_within c.text_of.result (print_of c.args.file.now) c.text_of.ensures (print_fits _) (search rules);
+}

@@ -7,4 +7,7 @@ use Rattle.report.proofs.print_sheet.Goals as goal
 
 pub returns : goal.returns
 unfolding sheet_print_of
-returns c = (c.text_of.ensures, text_within c.text_of.result (sheet_print_of c.args.file.now) c.text_of.ensures (sheet_fits _) (search rules))
+returns c = record {
+  value = c.text_of.ensures;
+  prefix_len = text_within c.text_of.result (sheet_print_of c.args.file.now) c.text_of.ensures (sheet_fits _) (search rules);
+}

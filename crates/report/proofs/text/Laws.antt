@@ -1,47 +1,68 @@
 -- The laws of the print: the digits of a number, and text written behind text.
 -- Assumes nothing.
-use Prim.Native.Nat.{ℕ, zero, suc, ◌+◌, ◌-◌, ◌*◌, ◌^◌, ◌<◌, ◌≤◌, zero-le}
-use mathlib.Core.List.{List, ◌++◌}
+use Prim.Native.Nat.{ℕ, zero, suc, ◌+◌, ◌-◌, ◌*◌, ◌/◌, ◌%◌, ◌^◌, ◌<◌, ◌≤◌, zero-le, suc-le-suc}
+use mathlib.Core.List.{List, [], ◌∷◌, ◌++◌, append_assoc, append-nil}
+use mathlib.Core.Bool.{false}
 use mathlib.Core.Path.{◌≡◌, refl, sym, ◌∙◌}
-use lib.ListN.{length, take, drop, length-append}
-use lib.Seq.{take-append_seam, drop-drop}
-use native.Mathlib.Nat.{zero-lt-suc}
+use borrow.Author.Tests.{eq-eqb, ne_eqb, lt-ltb}
+use native.Mathlib.Decide.{dec_lt}
+use lib.ListN.{length, take, drop, length-append, length-drop, take-append-drop}
+use lib.Seq.{take_at, length-take-le, take-length, drop-append-le, drop-drop}
+use native.Mathlib.Nat.{not-suc-le-zero, zero-lt-suc, le_of_suc-le-suc, mod-lt, mod-eq_of_lt, div-eq_of_lt}
 use native.Mathlib.Numerals.{add-one}
 use native.Mathlib.Omega.{arith}
 use Rattle.base.specs.Decimal.{up_to_digits, decimal}
 use Rattle.base.specs.Lists.{splice}
-use Rattle.base.proofs.Decimal.{digits_one, digits_more, length-decimal}
+use Rattle.base.proofs.Decimal.{digits_more, fewer_digits, length-decimal}
 use Rattle.base.proofs.Lists.{splice-none, splice_on}
-use Rattle.std.specs.Fmt.{decimal as spelled}
-use Rattle.std.proofs.lemmas.Fmt.{decimal_from_appends, length-decimal-le}
+use Rattle.std.specs.Fmt.{digits_onto, digits, decimal as written}
 use Rattle.dayfile.specs.Day.{most_calls}
 use Rattle.report.specs.Text.{call_line, last_line, refused_line, call_lines, day_text}
 use Rattle.report.specs.Put.{Put}
 
 -- ---- digits
 
--- 20 digits hold a number of 64 bits
-pub spelled_length : (n : ℕ) → n < 2 ^ 64 → length (spelled n) ≤ 20
-spelled_length n h = length-decimal-le 20 n (zero-lt-suc 19) (omega arith) h
+-- the digits that the kit writes: one, and one more behind others
+onto_one : (k m n : ℕ) (acc : List ℕ) → n < 10 → digits_onto (suc m) 10 false n acc ≡ up_to_digits (suc k) n ++ acc
+unfolding up_to_digits
+onto_one k m n acc h =
+    let none : n / 10 ≡ 0 = div-eq_of_lt h in
+    rw (eq-eqb (n / 10) 0 none, mod-eq_of_lt h, lt-ltb n 10 h)
 
--- what std spells of a number of 64 bits is its decimal
-pub spelled_decimal : (n : ℕ) → n < 2 ^ 64 → spelled n ≡ decimal n
-unfolding decimal
-spelled_decimal n h =
-    sym (decimal_from_appends up_to_digits (record { one = digits_one; more = digits_more }) 20 n h (spelled_length n h))
+onto_more : (k m n : ℕ) (acc : List ℕ)
+    → digits_onto (suc m) 10 false (n / 10) ((48 + n % 10) ∷ acc) ≡ up_to_digits (suc k) (n / 10) ++ ((48 + n % 10) ∷ acc)
+    → Dec (n < 10) → digits_onto (suc (suc m)) 10 false n acc ≡ up_to_digits (suc (suc k)) n ++ acc
+onto_more k m n acc more (yes h) = onto_one (suc k) (suc m) n acc h
+onto_more k m n acc more (no ge) =
+    let ten : 10 ≤ n = omega arith in
+    let some : n / 10 ≡ 0 → ⊥ = λ e. omega arith in
+    rw (ne_eqb (n / 10) 0 some, lt-ltb (n % 10) 10 (mod-lt n (zero-lt-suc 9)), digits_more (suc k) n ten)
+    (more ∙ sym (append_assoc (up_to_digits (suc k) (n / 10)) ((48 + n % 10) ∷ []) acc))
 
--- those that end a buffer of 20 bytes
-pub digits_taken : (n start : ℕ) (digits behind : List ℕ) → n < 2 ^ 64 → start + length (spelled n) ≡ 20 → drop start digits ≡ spelled n ++ behind
-    → take (20 - start) (drop start digits) ≡ decimal n
-digits_taken n start digits behind h ends written =
-    let long : 20 - start ≡ length (spelled n) = omega arith in
-    rw (long, written, take-append_seam (spelled n) behind, spelled_decimal n h)
+-- so they are those of a number of at most suc k digits
+onto_digits : (k m n : ℕ) (acc : List ℕ) → k ≤ m → n < 10 ^ suc k → digits_onto (suc m) 10 false n acc ≡ up_to_digits (suc k) n ++ acc
+onto_digits zero m n acc fits most = onto_one zero m n acc (omega arith)
+onto_digits (suc k) zero n acc fits most = absurd (not-suc-le-zero fits)
+onto_digits (suc k) (suc m) n acc fits most =
+    onto_more k m n acc (onto_digits k m (n / 10) ((48 + n % 10) ∷ acc) (le_of_suc-le-suc fits) (fewer_digits (suc k) n most)) (dec_lt n 10)
+
+-- the kit's decimal of a number of 64 bits is its decimal
+pub decimal_same : (n : ℕ) → n < 2 ^ 64 → written n ≡ decimal n
+unfolding decimal digits
+decimal_same n h = onto_digits 19 63 n [] (omega arith) (omega arith) ∙ append-nil _
+
+-- so what the kit writes at the end of an array of 20 bytes is the decimal
+pub decimal_end : (n start : ℕ) (bytes rest : List ℕ) → n < 2 ^ 64 → start + length (written n) ≡ 20 → drop start bytes ≡ written n ++ rest
+    → take (20 - start) (drop start bytes) ≡ decimal n
+decimal_end n start bytes rest h long e =
+    let same = decimal_same n h in
+    let left : length (written n) ≡ 20 - start = omega arith in
+    rw e (take_at (written n) rest (20 - start) left ∙ same)
 
 -- ---- text behind text
 
 -- a text copied into the part of a buffer from index at that is as long
-pub copied : (text old new : List ℕ) (at : ℕ) → new ≡ text
-    → take at old ++ (new ++ drop (at + length text - at) (drop at old)) ≡ splice at text old
+pub copied : (text old new : List ℕ) (at : ℕ) → new ≡ text → take at old ++ (new ++ drop (at + length text - at) (drop at old)) ≡ splice at text old
 unfolding splice
 copied text old new at e =
     let long : at + length text - at ≡ length text = omega arith in

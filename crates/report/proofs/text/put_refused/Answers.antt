@@ -1,6 +1,7 @@
 -- `report::text::put_refused` meets its contract: the two fields are written one behind the other, then the line feed.
 -- Assumes nothing.
-use Prim.Native.Nat.{ℕ, ◌≤◌}
+use Prim.Native.Nat.{◌≤◌}
+use borrow.Author.Rules.{rules}
 use lib.ListN.{length}
 use native.Mathlib.Omega.{arith}
 use Rattle.base.specs.Decimal.{decimal}
@@ -8,18 +9,19 @@ use Rattle.base.proofs.Decimal.{length-decimal}
 use Rattle.report.specs.Text.{refused_line}
 use Rattle.report.proofs.text.Laws.{put_on}
 use Rattle.report.proofs.text.put_refused.Goals as goal
+use Rattle.report.proofs.text.put_refused.Goals.{Start}
 
-short : (number index : ℕ) → (length (decimal number) ≤ 20) × (length (decimal index) ≤ 20)
-short number index = (length-decimal number, length-decimal index)
+short : (c : Start) → (length (decimal c.args.number) ≤ 20) × (length (decimal c.args.index) ≤ 20)
+short c = (length-decimal c.args.number, length-decimal c.args.index)
 
 pub put_field-told-requires : goal.put_field-told-requires
-put_field-told-requires c = omega (arith, short c.args.number c.args.index)
+put_field-told-requires c = omega (arith, short (goal.at.put_field-told-requires c).Start)
 
 pub put-requires : goal.put-requires
-put-requires c = omega (arith, short c.args.number c.args.index)
+put-requires c = omega (arith, short (goal.at.put-requires c).Start)
 
 pub returns : goal.returns
 unfolding refused_line
-returns c =
-    put_on (put_on c.put_field-numbered.ensures c.put_field-told.ensures (omega (arith, short c.args.number c.args.index)))
-    c.put.ensures (omega (arith, short c.args.number c.args.index))
+returns c = let most = short (goal.at.returns c).Start in
+    put_on (put_on c.put_field-numbered.ensures c.put_field-told.ensures (omega arith))
+    c.put.ensures (omega arith)
