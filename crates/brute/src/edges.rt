@@ -52,7 +52,16 @@ fn edge(
 // All days.
 pub(crate) fn all(rt: &impl Print) -> Group {
     // Case A. At its last call crane 0 is nearer, and the least cost falls.
-    let a = edge(rt, Group::none(), small::three(10, 20, 15), 3, 2, 20, 3, 101);
+    let a = edge(
+        rt,
+        Group::none(),
+        small::three(10, 20, 15),
+        3,
+        2,
+        20,
+        3,
+        101,
+    );
     // One place, one crane, one call.
     let one = edge(rt, a, small::three(0, 0, 0), 1, 1, 0, 1, 0);
     // Equal sums and equal drives.

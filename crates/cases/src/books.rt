@@ -87,12 +87,18 @@ fn ask(rt: &impl Print, book: Book, places: usize, table: &[u32], place: u16, cr
     let quote = Dispatch::quote(book, places, table, place);
     let quoted = quote.verdict;
     line::verdict(rt, quoted);
-    line::number(rt, ((quote.crane == 0) & (quote.metres == 0) & (quote.least == 0)) as u64);
+    line::number(
+        rt,
+        ((quote.crane == 0) & (quote.metres == 0) & (quote.least == 0)) as u64,
+    );
     let commit = Dispatch::commit(book, places, table, place, crane);
     let committed = commit.verdict;
     line::verdict(rt, committed);
     let after = commit.book;
-    line::number(rt, ((commit.least == 0) & entries::same(book, after)) as u64);
+    line::number(
+        rt,
+        ((commit.least == 0) & entries::same(book, after)) as u64,
+    );
     line::comma(rt);
 }
 

@@ -112,7 +112,10 @@ fn commit_padded(rt: &impl Print, book: Book, table: &[u32], crane: usize) {
     let plain = Dispatch::commit(book, 3, table, 1, crane);
     let after = commit(rt, spoiled(book), table, 1, crane);
     line::number(rt, entries::same(plain.book, after) as u64);
-    line::number(rt, entries::same(entries::padded(after, 0, 0, 0), after) as u64);
+    line::number(
+        rt,
+        entries::same(entries::padded(after, 0, 0, 0), after) as u64,
+    );
     line::comma(rt);
 }
 

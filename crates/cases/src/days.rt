@@ -86,8 +86,20 @@ fn tell(rt: &impl Print, day: Day, table: &[u32]) {
 }
 
 // The same of the day of case A with other counts and places, and of three legs.
-fn take(rt: &impl Print, places: usize, cranes: usize, calls: usize, start: u16, call: u16, second: u32) {
-    tell(rt, day(places, cranes, calls, start, call), &[10, second, 15]);
+fn take(
+    rt: &impl Print,
+    places: usize,
+    cranes: usize,
+    calls: usize,
+    start: u16,
+    call: u16,
+    second: u32,
+) {
+    tell(
+        rt,
+        day(places, cranes, calls, start, call),
+        &[10, second, 15],
+    );
 }
 
 // The same of such a day without calls, everyone at place 0, and of so many legs of 7 metres.

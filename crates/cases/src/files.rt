@@ -185,7 +185,16 @@ fn put_legs(file: &mut [u8], legs: usize) -> usize {
 }
 
 // Reads a file of four records: so many of their bytes, with one byte set.
-fn short(rt: &impl Print, first: u64, second: u64, third: u64, last: u64, length: usize, at: usize, byte: u8) {
+fn short(
+    rt: &impl Print,
+    first: u64,
+    second: u64,
+    third: u64,
+    last: u64,
+    length: usize,
+    at: usize,
+    byte: u8,
+) {
     let mut file = [0; SHORT];
     put(&mut file[..], 0, first);
     put(&mut file[..], 12, second);
@@ -196,7 +205,15 @@ fn short(rt: &impl Print, first: u64, second: u64, third: u64, last: u64, length
 }
 
 // Reads a file of so many legs, the last of so many metres, cranes, calls and one record more: so many of their bytes.
-fn long(rt: &impl Print, legs: usize, metres: u8, cranes: usize, calls: usize, last: u64, length: usize) {
+fn long(
+    rt: &impl Print,
+    legs: usize,
+    metres: u8,
+    cranes: usize,
+    calls: usize,
+    last: u64,
+    length: usize,
+) {
     let mut file = [0; LONG];
     let behind = put_legs(&mut file[..], legs);
     set(

@@ -22,7 +22,10 @@ pub(crate) fn spring() -> Window {
 
 // The number of a date, over one place.
 fn tested(rt: &impl Print, day: u8, month: u8, year: u16) {
-    line::verdict(rt, season::test(1, &[], &[], spring(), date(day, month, year)));
+    line::verdict(
+        rt,
+        season::test(1, &[], &[], spring(), date(day, month, year)),
+    );
 }
 
 // Leap years.
@@ -48,7 +51,10 @@ pub(crate) fn no_dates(rt: &impl Print) {
 
 // The years that count.
 pub(crate) fn years(rt: &impl Print) {
-    line::begin(rt, b"31 December of 1582, 1 January of 1583; 31 December of 9999, 1 January of 10000");
+    line::begin(
+        rt,
+        b"31 December of 1582, 1 January of 1583; 31 December of 9999, 1 January of 10000",
+    );
     tested(rt, 31, 12, 1_582);
     tested(rt, 1, 1, 1_583);
     tested(rt, 31, 12, 9_999);
@@ -113,7 +119,10 @@ fn leap_day(rt: &impl Print, last: MonthDay, day: u8, month: u8, year: u16) {
 
 // A window over the year's end.
 pub(crate) fn over(rt: &impl Print) {
-    line::begin(rt, b"20 December to 10 January: 19, 20 and 31 December, 1, 10 and 11 January");
+    line::begin(
+        rt,
+        b"20 December to 10 January: 19, 20 and 31 December, 1, 10 and 11 January",
+    );
     midwinter(rt, 19, 12, 2_025);
     midwinter(rt, 20, 12, 2_025);
     midwinter(rt, 31, 12, 2_025);
@@ -126,7 +135,10 @@ pub(crate) fn over(rt: &impl Print) {
 // Windows with 29 February as an edge.
 pub(crate) fn leap(rt: &impl Print) {
     let march = on(1, 3);
-    line::begin(rt, b"29 February to 1 March: 28 February, 1 and 2 March of 2023; 29 February of 2024");
+    line::begin(
+        rt,
+        b"29 February to 1 March: 28 February, 1 and 2 March of 2023; 29 February of 2024",
+    );
     leap_day(rt, march, 28, 2, 2_023);
     leap_day(rt, march, 1, 3, 2_023);
     leap_day(rt, march, 2, 3, 2_023);
@@ -176,7 +188,10 @@ pub(crate) fn date_first(rt: &impl Print) {
 }
 
 pub(crate) fn ordinary_first(rt: &impl Print) {
-    line::begin(rt, b"the ordinary table's 3, 4 and 8 before the thaw table's 8, 3 and 3");
+    line::begin(
+        rt,
+        b"the ordinary table's 3, 4 and 8 before the thaw table's 8, 3 and 3",
+    );
     tables(rt, 3, &[10, 20], &[12, 36, 18], 1);
     tables(rt, 3, &[10, 1_000_001, 15], &[12, 22], 1);
     tables(rt, 3, &[10, 26, 15], &[12, 22], 1);

@@ -31,13 +31,16 @@ fn serve(rt: &impl Print, legs: &[u32]) {
 
 // The same on the legs of the first day of a month, the window being that of March to May.
 fn on_day<'a>(rt: &impl Print, ordinary: &'a [u32], thaw: &'a [u32], month: u8) {
-    serve(rt, season::legs(
-        3,
-        ordinary,
-        thaw,
-        named::spring(),
-        named::date(1, month, 2_026),
-    ));
+    serve(
+        rt,
+        season::legs(
+            3,
+            ordinary,
+            thaw,
+            named::spring(),
+            named::date(1, month, 2_026),
+        ),
+    );
 }
 
 pub(crate) fn days<'a>(rt: &impl Print, ordinary: &'a [u32], thaw: &'a [u32]) {
@@ -45,7 +48,10 @@ pub(crate) fn days<'a>(rt: &impl Print, ordinary: &'a [u32], thaw: &'a [u32]) {
     on_day(rt, ordinary, thaw, 5);
     serve(rt, thaw);
     line::end(rt);
-    line::begin(rt, b"case A served in June; over the ordinary table; in month 13");
+    line::begin(
+        rt,
+        b"case A served in June; over the ordinary table; in month 13",
+    );
     on_day(rt, ordinary, thaw, 6);
     serve(rt, ordinary);
     on_day(rt, ordinary, thaw, 13);

@@ -81,7 +81,12 @@ fn stops(rt: &impl Print, start: u16, last: u16, lower: Legs) {
 fn lengths(rt: &impl Print, places: usize, cranes: usize, lower: usize, upper: usize) {
     let legs = [0; 2_080];
     let day = day(places, cranes, 1, 0, 0, 0);
-    ask(rt, day, draw::front(&legs, lower), draw::front(&legs, upper));
+    ask(
+        rt,
+        day,
+        draw::front(&legs, lower),
+        draw::front(&legs, upper),
+    );
 }
 
 // Prints the number and the floor of a day over one table.
@@ -107,11 +112,17 @@ pub(crate) fn floors(rt: &impl Print) {
     line::begin(rt, b"case A between 8 18 12 and 12 22 18");
     tables(rt, LOWER, UPPER);
     line::end(rt);
-    line::begin(rt, b"case A between 10 20 15 and the same; between 0 0 0 and 10 20 15");
+    line::begin(
+        rt,
+        b"case A between 10 20 15 and the same; between 0 0 0 and 10 20 15",
+    );
     tables(rt, [10, 20, 15], [10, 20, 15]);
     tables(rt, [0, 0, 0], [10, 20, 15]);
     line::end(rt);
-    line::begin(rt, b"case A between 1 26 1 and 10 40 2, which break the triangle rule");
+    line::begin(
+        rt,
+        b"case A between 1 26 1 and 10 40 2, which break the triangle rule",
+    );
     tables(rt, [1, 26, 1], [10, 40, 2]);
     line::end(rt);
 }
@@ -129,7 +140,10 @@ pub(crate) fn edges(rt: &impl Print) {
 
 // One table: the floor of the plans beside that of the day served, which is refused where the table breaks the triangle rule.
 pub(crate) fn plans(rt: &impl Print) {
-    line::begin(rt, b"plans of case A, and the day served, over 10 20 15; over 12 22 18; over 1 26 1");
+    line::begin(
+        rt,
+        b"plans of case A, and the day served, over 10 20 15; over 12 22 18; over 1 26 1",
+    );
     both(rt, [10, 20, 15]);
     both(rt, UPPER);
     both(rt, [1, 26, 1]);
@@ -151,7 +165,10 @@ pub(crate) fn past(rt: &impl Print) {
 }
 
 pub(crate) fn order(rt: &impl Print) {
-    line::begin(rt, b"3: 0 and 65 places; the lower table shorter, longer; the upper; each before 6");
+    line::begin(
+        rt,
+        b"3: 0 and 65 places; the lower table shorter, longer; the upper; each before 6",
+    );
     lengths(rt, 0, 2, 0, 0);
     lengths(rt, 65, 2, 2_080, 2_080);
     lengths(rt, 3, 2, 2, 3);
@@ -164,7 +181,10 @@ pub(crate) fn order(rt: &impl Print) {
 }
 
 pub(crate) fn cranes(rt: &impl Print) {
-    line::begin(rt, b"6: 0 cranes; 17 cranes; before 7; 7: 257 calls; before 4");
+    line::begin(
+        rt,
+        b"6: 0 cranes; 17 cranes; before 7; 7: 257 calls; before 4",
+    );
     counts(rt, 0, 3, UPPER);
     counts(rt, 17, 3, UPPER);
     counts(rt, 17, 257, UPPER);
@@ -174,7 +194,10 @@ pub(crate) fn cranes(rt: &impl Print) {
 }
 
 pub(crate) fn metres(rt: &impl Print) {
-    line::begin(rt, b"4: the lower table; the upper; each before 15; 1000000 is accepted");
+    line::begin(
+        rt,
+        b"4: the lower table; the upper; each before 15; 1000000 is accepted",
+    );
     tables(rt, [8, 18, FAR], [12, 22, FAR]);
     tables(rt, LOWER, [12, 22, FAR]);
     tables(rt, [13, FAR, 12], UPPER);
@@ -184,7 +207,10 @@ pub(crate) fn metres(rt: &impl Print) {
 }
 
 pub(crate) fn bounds(rt: &impl Print) {
-    line::begin(rt, b"15: the first leg; the second; the last; before 5; 5: a start; a call");
+    line::begin(
+        rt,
+        b"15: the first leg; the second; the last; before 5; 5: a start; a call",
+    );
     tables(rt, [13, 18, 12], UPPER);
     tables(rt, [8, 23, 12], UPPER);
     tables(rt, [8, 18, 19], UPPER);
@@ -195,7 +221,10 @@ pub(crate) fn bounds(rt: &impl Print) {
 }
 
 pub(crate) fn triangles(rt: &impl Print) {
-    line::begin(rt, b"no 8: the lower table breaks the triangle rule; the upper; both");
+    line::begin(
+        rt,
+        b"no 8: the lower table breaks the triangle rule; the upper; both",
+    );
     tables(rt, [8, 21, 12], UPPER);
     tables(rt, LOWER, [12, 31, 18]);
     tables(rt, [8, 21, 12], [12, 31, 18]);
@@ -205,11 +234,18 @@ pub(crate) fn triangles(rt: &impl Print) {
 // The plans of a day whose second start is no place, with other counts, over the first legs of three.
 fn refused(rt: &impl Print, legs: usize, third: u32, cranes: usize, calls: usize) {
     let table = [10, 20, third];
-    plan(rt, day(3, cranes, calls, 3, 1, 0), draw::front(&table, legs));
+    plan(
+        rt,
+        day(3, cranes, calls, 3, 1, 0),
+        draw::front(&table, legs),
+    );
 }
 
 pub(crate) fn plans_refused(rt: &impl Print) {
-    line::begin(rt, b"plans: 3 before 6; 6 before 7; 7 before 4; 4 before 5; 5");
+    line::begin(
+        rt,
+        b"plans: 3 before 6; 6 before 7; 7 before 4; 4 before 5; 5",
+    );
     refused(rt, 2, FAR, 0, 257);
     refused(rt, 3, FAR, 0, 257);
     refused(rt, 3, FAR, 2, 257);
