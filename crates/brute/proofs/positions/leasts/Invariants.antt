@@ -1,0 +1,10 @@
+-- `brute::positions::leasts` is safe: the loop ends.
+-- Assumes nothing.
+use Rattle.std.proofs.Common.{◌-◌, ◌≤◌, rules}
+use Rattle.brute.proofs.positions.leasts.Given as goal
+
+abbrev pub invariant-loop-crane : goal.invariant-loop-crane
+invariant-loop-crane l = l.crane ≤ l.size.cranes
+
+abbrev pub decreases-loop-crane : goal.decreases-loop-crane
+decreases-loop-crane l = l.size.cranes - l.crane
