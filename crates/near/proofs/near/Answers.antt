@@ -31,7 +31,6 @@ arrays c = record { starts = search rules; stands = search rules; requests = sea
 -- the metres of each crane
 found : (c : After-of_stands-metres) → take c.args.book.cranes c.of_stands-metres.result ≡ drives_of c.args.book c.args.table.now c.args.place
 found c =
-    
     let tested_here : near_refusal c.args.book c.args.places c.args.table.now c.args.place ≡ 0 = accepts _ _ c.in-Accepted.is c.test-verdict.ensures
     in
     let arrays_here : BookArrays c.args.book = record { starts = search rules; stands = search rules; requests = search rules; driven = search rules }
@@ -41,7 +40,6 @@ found c =
 -- the array has an entry for each
 enough : (c : After-of_stands-metres) → c.args.book.cranes ≤ length c.of_stands-metres.result
 enough c =
-    
     let tested_here : near_refusal c.args.book c.args.places c.args.table.now c.args.place ≡ 0 = accepts _ _ c.in-Accepted.is c.test-verdict.ensures
     in
     let sound_here : Sound c.args.book c.args.places c.args.table.now = near_sound c.args.book c.args.places c.args.table.now c.args.place (tested_here)
@@ -52,7 +50,7 @@ enough c =
 -- how many are within the distance
 counted : (c : After-within-count) → let metres = drives_of c.args.book c.args.table.now c.args.place in
     c.within-count.result ≡ count (length metres) (λ s. leb (get_or metres s 0) c.args.distance)
-counted c = 
+counted c =
     let tested_here : near_refusal c.args.book c.args.places c.args.table.now c.args.place ≡ 0 = accepts _ _ c.in-Accepted.is c.test-verdict.ensures
     in
     let arrays_here : BookArrays c.args.book = record { starts = search rules; stands = search rules; requests = search rules; driven = search rules }
@@ -72,10 +70,10 @@ slice_bounds-of_stands-end c = as_many_stands (arrays (goal.at.slice_bounds-of_s
 
 pub of_stands-metres-requires : goal.of_stands-metres-requires
 of_stands-metres-requires c = record {
-      few = few_stands (arrays (goal.at.of_stands-metres-requires c).In-Accepted) (sound (goal.at.of_stands-metres-requires c).In-Accepted);
-      standing = stands_in_table (arrays (goal.at.of_stands-metres-requires c).In-Accepted) (sound (goal.at.of_stands-metres-requires c).In-Accepted);
-      placed = near_placed _ _ _ _ (tested (goal.at.of_stands-metres-requires c).In-Accepted);
-    }
+  few = few_stands (arrays (goal.at.of_stands-metres-requires c).In-Accepted) (sound (goal.at.of_stands-metres-requires c).In-Accepted);
+  standing = stands_in_table (arrays (goal.at.of_stands-metres-requires c).In-Accepted) (sound (goal.at.of_stands-metres-requires c).In-Accepted);
+  placed = near_placed _ _ _ _ (tested (goal.at.of_stands-metres-requires c).In-Accepted);
+}
 
 pub slice_bounds-metres-end : goal.slice_bounds-metres-end
 slice_bounds-metres-end c = enough (goal.at.slice_bounds-metres-end c).After-of_stands-metres
@@ -94,9 +92,9 @@ slice_bounds-put-end c = sym (length-take-le _ _ (enough (goal.at.slice_bounds-p
 
 pub put-requires : goal.put-requires
 put-requires c = record {
-      few = rw (length-take-le _ _ (enough (goal.at.put-requires c).After-of_stands-metres)) (sound (goal.at.put-requires c).In-Accepted).counts.cranes;
-      room = c.if-out-count.false;
-    }
+  few = rw (length-take-le _ _ (enough (goal.at.put-requires c).After-of_stands-metres)) (sound (goal.at.put-requires c).In-Accepted).counts.cranes;
+  room = c.if-out-count.false;
+}
 
 pub slice_bounds-metres-end-3 : goal.slice_bounds-metres-end-3
 slice_bounds-metres-end-3 c = enough (goal.at.slice_bounds-metres-end-3 c).After-of_stands-metres

@@ -1,6 +1,5 @@
 -- `report::text_of` meets its contract: the text is written into the front of zeros.
 -- Assumes nothing.
-use borrow.Author.Rules.{rules}
 use Rattle.report.proofs.Outputs.{put_printed}
 use Rattle.report.proofs.text_of.Goals as goal
 

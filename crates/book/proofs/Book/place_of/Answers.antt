@@ -1,7 +1,6 @@
 -- `book::Book::place_of` meets its contract: the places of the first list come first, then those of the calls.
 -- Assumes nothing.
 use mathlib.Core.Path.{sym}
-use borrow.Author.Rules.{rules}
 use Rattle.workfunction.proofs.Stops.{place_stand}
 use Rattle.book.proofs.Places.{place_past, place_none}
 use Rattle.book.proofs.Book.place_of.Goals as goal

@@ -72,7 +72,7 @@ placed : (c : In-Accepted) (r n : ℕ) → n ≡ r → n ≡ from_placed c.args.
 placed c r n q = goes_on _ _ r n c.in-Accepted.is c.test_placed-placed.ensures q
 
 stands : (c : In-Accepted-standing) (r n : ℕ) → n ≡ r → n ≡ from_stands c.args.self c.args.places c.args.table.now r
-stands c r n q = 
+stands c r n q =
     let placed_here : (r n : ℕ) → n ≡ r → n ≡ from_placed c.args.self c.args.places c.args.table.now r = λ r n q. goes_on _ _ r n c.in-Accepted.is c.test_placed-placed.ensures q
     in
     placed_here _ n (goes_on _ _ r n c.in-Accepted-standing.is c.test_stops-standing.ensures q)
@@ -80,14 +80,14 @@ stands c r n q =
 -- the triangle rule, the places being accepted
 ways : (c : After-test_triangles-triangled)
     → number_of c.test_triangles-triangled.result ≡ triangle_refusal c.args.places c.args.table.now
-ways c = 
+ways c =
     let day_here : Placed (book_day c.args.self c.args.places) c.args.table.now = day_placed _ _ (accepts _ _ c.in-Accepted.is c.test_placed-placed.ensures)
     in
     asked_again _ _ _ (run_tested _ _ _ _ (day_here).counts) c.test_triangles-triangled.ensures
 
 triangles : (c : In-Accepted-triangled) (r n : ℕ) → n ≡ r
     → n ≡ from_triangles c.args.self c.args.places c.args.table.now r
-triangles c r n q = 
+triangles c r n q =
     let placed_here : (r n : ℕ) → n ≡ r → n ≡ from_placed c.args.self c.args.places c.args.table.now r = λ r n q. goes_on _ _ r n c.in-Accepted.is c.test_placed-placed.ensures q
     in
     let stands_here : (r n : ℕ) → n ≡ r → n ≡ from_stands c.args.self c.args.places c.args.table.now r = λ r n q. placed_here _ n (goes_on _ _ r n c.in-Accepted-standing.is c.test_stops-standing.ensures q)
@@ -152,11 +152,11 @@ slice_bounds-test-end-6 c = sym (weights_long (goal.at.slice_bounds-test-end-6 c
 
 pub test-vouched-requires : goal.test-vouched-requires
 test-vouched-requires c = record {
-      most = omega (arith, (day (goal.at.test-vouched-requires c).In-Accepted).counts);
-      planned = omega (arith, plan_long (goal.at.test-vouched-requires c).Start, (day (goal.at.test-vouched-requires c).In-Accepted).counts);
-      weighed = omega (arith, weights_long (goal.at.test-vouched-requires c).Start, (day (goal.at.test-vouched-requires c).In-Accepted).counts);
-      below = (plan_facts _ _ _ (plan (goal.at.test-vouched-requires c).In-Accepted-planned)).below;
-    }
+  most = omega (arith, (day (goal.at.test-vouched-requires c).In-Accepted).counts);
+  planned = omega (arith, plan_long (goal.at.test-vouched-requires c).Start, (day (goal.at.test-vouched-requires c).In-Accepted).counts);
+  weighed = omega (arith, weights_long (goal.at.test-vouched-requires c).Start, (day (goal.at.test-vouched-requires c).In-Accepted).counts);
+  below = (plan_facts _ _ _ (plan (goal.at.test-vouched-requires c).In-Accepted-planned)).below;
+}
 
 pub overflow_cast-most : goal.overflow_cast-most
 overflow_cast-most c = omega (arith, (day (goal.at.overflow_cast-most c).In-Accepted).counts)

@@ -1,13 +1,8 @@
 -- `book::driven::test` meets its contract: the loop passes the cranes whose metres are within the most.
 -- Assumes nothing.
-use Prim.Native.Nat.{ℕ, ◌-◌}
-use mathlib.Core.Bool.{Bool}
-use mathlib.Core.List.{List}
-use borrow.Author.Rules.{rules}
 use borrow.Author.Tests.{le-leb, lt-leb}
-use lib.Dec.{leb}
-use lib.ListN.{length, get_or}
-use Rattle.base.proofs.Tests.{Passed, begun, turned, ended, below_fails}
+use lib.ListN.{length}
+use Rattle.base.proofs.Tests.{begun, turned, ended, below_fails}
 use Rattle.book.proofs.driven.test.Invariants.{rule}
 use Rattle.book.proofs.driven.test.Goals as goal
 

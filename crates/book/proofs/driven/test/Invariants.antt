@@ -3,11 +3,9 @@
 use Prim.Native.Nat.{ℕ, ◌-◌}
 use mathlib.Core.Bool.{Bool}
 use mathlib.Core.List.{List}
-use borrow.Author.Rules.{rules}
-use borrow.Author.Tests.{le-leb, lt-leb}
 use lib.Dec.{leb}
 use lib.ListN.{length, get_or}
-use Rattle.base.proofs.Tests.{Passed, begun, turned, ended, below_fails}
+use Rattle.base.proofs.Tests.{Passed}
 use Rattle.book.proofs.driven.test.Given as goal
 
 -- what the loop tests of each crane

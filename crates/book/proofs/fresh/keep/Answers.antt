@@ -1,10 +1,8 @@
 -- `book::fresh::keep` meets its contract: the loop fills the list from the front.
 -- Assumes nothing.
-use Prim.Native.Nat.{◌-◌}
 use mathlib.Core.Path.{refl}
 use borrow.Author.Rules.{rules}
-use lib.ListN.{get_or}
-use Rattle.base.proofs.Lists.{Filled, fill_begun, fill_turned, fill_ended}
+use Rattle.base.proofs.Lists.{fill_begun, fill_turned, fill_ended}
 use Rattle.book.proofs.fresh.keep.Goals as goal
 
 pub loop-i-init : goal.loop-i-init

@@ -1,9 +1,8 @@
 -- `book::fresh::plan` meets its contract: the loop fills the plan from the front.
 -- Assumes nothing.
-use Prim.Native.Nat.{◌-◌}
 use mathlib.Core.Path.{refl}
 use borrow.Author.Rules.{rules}
-use Rattle.base.proofs.Lists.{Filled, fill_begun, fill_turned, fill_padded}
+use Rattle.base.proofs.Lists.{fill_begun, fill_turned, fill_padded}
 use Rattle.book.specs.Book.{most_stops}
 use Rattle.book.proofs.fresh.plan.Goals as goal
 

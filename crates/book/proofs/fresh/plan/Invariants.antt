@@ -1,10 +1,7 @@
 -- `book::fresh::plan` meets its contract: the loop fills the plan from the front.
 -- Assumes nothing.
 use Prim.Native.Nat.{◌-◌}
-use mathlib.Core.Path.{refl}
-use borrow.Author.Rules.{rules}
-use Rattle.base.proofs.Lists.{Filled, fill_begun, fill_turned, fill_padded}
-use Rattle.book.specs.Book.{most_stops}
+use Rattle.base.proofs.Lists.{Filled}
 use Rattle.book.proofs.fresh.plan.Given as goal
 
 abbrev pub invariant-loop-j : goal.invariant-loop-j

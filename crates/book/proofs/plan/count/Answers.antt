@@ -1,14 +1,9 @@
 -- `book::plan::count` meets its contract: the loop counts the stops below p that b follows.
 -- Assumes nothing.
-use Prim.Native.Nat.{◌-◌}
-use mathlib.Core.Logic.{⊎_elim}
-use borrow.Author.Rules.{rules}
 use borrow.Author.Tests.{eq-eqb, ne_eqb}
-use lib.Dec.{eqb}
 use native.Mathlib.Omega.{arith}
 use Rattle.workfunction.specs.Plan.{follows}
-use Rattle.workfunction.proofs.Counted.{Counted, count_begun, one_more, no_more, count_ended}
-use Rattle.book.specs.Book.{follower}
+use Rattle.workfunction.proofs.Counted.{count_begun, one_more, no_more, count_ended}
 use Rattle.book.proofs.plan.count.Goals as goal
 use Rattle.book.proofs.plan.count.Goals.{else-plan-p, then-plan-p}
 

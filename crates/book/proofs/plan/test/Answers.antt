@@ -1,7 +1,6 @@
 -- `book::plan::test` meets its contract: a refusal of the followers is handed up, else the count of each follower decides.
 -- Assumes nothing.
 use mathlib.Core.Bool.{Bool}
-use borrow.Author.Rules.{rules}
 use Rattle.base.proofs.Numbers.{second_decides, first_stops}
 use Rattle.workfunction.specs.Plan.{followers_rule, once_rule, plan_rule}
 use Rattle.book.specs.Book.{follower}

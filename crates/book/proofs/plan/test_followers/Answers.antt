@@ -1,15 +1,9 @@
 -- `book::plan::test_followers` meets its contract: the loop passes the stops whose follower is in range and may follow them.
 -- Assumes nothing.
-use Prim.Native.Nat.{ℕ, ◌-◌}
-use mathlib.Core.Bool.{Bool, ◌&&◌}
-use mathlib.Core.List.{List}
-use borrow.Author.Rules.{rules}
-use lib.Dec.{ltb}
 use native.Mathlib.Omega.{arith}
 use Rattle.base.proofs.Numbers.{holds, stops}
-use Rattle.base.proofs.Tests.{Passed, begun, turned, ended, below_fails}
-use Rattle.workfunction.specs.Plan.{may_follow, followers_rule}
-use Rattle.book.specs.Book.{follower}
+use Rattle.base.proofs.Tests.{begun, turned, ended, below_fails}
+use Rattle.workfunction.specs.Plan.{followers_rule}
 use Rattle.book.proofs.plan.test_followers.Invariants.{rule}
 use Rattle.book.proofs.plan.test_followers.Goals as goal
 

@@ -3,12 +3,10 @@
 use Prim.Native.Nat.{ℕ, ◌-◌}
 use mathlib.Core.Bool.{Bool, ◌&&◌}
 use mathlib.Core.List.{List}
-use borrow.Author.Rules.{rules}
 use lib.Dec.{ltb}
-use native.Mathlib.Omega.{arith}
-use Rattle.base.proofs.Numbers.{holds, stops}
-use Rattle.base.proofs.Tests.{Passed, begun, turned, ended, below_fails}
-use Rattle.workfunction.specs.Plan.{may_follow, followers_rule}
+use Rattle.base.proofs.Numbers.{stops}
+use Rattle.base.proofs.Tests.{Passed}
+use Rattle.workfunction.specs.Plan.{may_follow}
 use Rattle.book.specs.Book.{follower}
 use Rattle.book.proofs.plan.test_followers.Given as goal
 

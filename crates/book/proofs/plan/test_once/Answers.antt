@@ -1,15 +1,8 @@
 -- `book::plan::test_once` meets its contract: the loop passes the calls and stands that follow exactly one stop.
 -- Assumes nothing.
-use Prim.Native.Nat.{ℕ, ◌-◌}
-use mathlib.Core.Bool.{Bool}
-use mathlib.Core.List.{List}
-use borrow.Author.Rules.{rules}
 use borrow.Author.Tests.{eq-eqb, ne_eqb}
-use lib.Dec.{eqb}
-use Rattle.base.proofs.Tests.{Passed, begun, turned, ended, below_fails}
-use Rattle.workfunction.specs.Lists.{sum_below}
-use Rattle.workfunction.specs.Plan.{follows, once_rule}
-use Rattle.book.specs.Book.{follower}
+use Rattle.base.proofs.Tests.{begun, turned, ended, below_fails}
+use Rattle.workfunction.specs.Plan.{once_rule}
 use Rattle.book.proofs.plan.test_once.Invariants.{rule}
 use Rattle.book.proofs.plan.test_once.Goals as goal
 

@@ -3,12 +3,10 @@
 use Prim.Native.Nat.{ℕ, ◌-◌}
 use mathlib.Core.Bool.{Bool}
 use mathlib.Core.List.{List}
-use borrow.Author.Rules.{rules}
-use borrow.Author.Tests.{eq-eqb, ne_eqb}
 use lib.Dec.{eqb}
-use Rattle.base.proofs.Tests.{Passed, begun, turned, ended, below_fails}
+use Rattle.base.proofs.Tests.{Passed}
 use Rattle.workfunction.specs.Lists.{sum_below}
-use Rattle.workfunction.specs.Plan.{follows, once_rule}
+use Rattle.workfunction.specs.Plan.{follows}
 use Rattle.book.specs.Book.{follower}
 use Rattle.book.proofs.plan.test_once.Given as goal
 

@@ -1,7 +1,6 @@
 -- `book::weights::leg` meets its contract: the metres are read between the place of the stop and that of the follower.
 -- Assumes nothing.
 use mathlib.Core.Path.{◌∙◌}
-use borrow.Author.Rules.{rules}
 use Rattle.workfunction.specs.Plan.{leg_cost}
 use Rattle.book.proofs.weights.leg.Goals as goal
 

@@ -1,7 +1,6 @@
 -- `book::weights::test` meets its contract: a refusal of the range is handed up, else the vouching decides.
 -- Assumes nothing.
 use mathlib.Core.Bool.{Bool}
-use borrow.Author.Rules.{rules}
 use lib.ListN.{length}
 use Rattle.base.proofs.Numbers.{holds, second_decides, first_stops}
 use Rattle.base.proofs.Tests.{below_at}

@@ -1,7 +1,6 @@
 -- `book::weights::test_at` meets its contract: its branches are the ways in which b may follow p.
 -- Assumes nothing.
 use mathlib.Core.Logic.{inl, inr}
-use borrow.Author.Rules.{rules}
 use mir.Syntax.{w64}
 use mir.ValLaws.{to_z-of_z}
 use Rattle.workfunction.proofs.Plan.{may_follow_lem, may_not_follow}

@@ -1,18 +1,15 @@
 -- `book::weights::test_from` meets its contract: the loop passes the calls and stands b for which the inequality of p holds.
 -- Assumes nothing.
-use Prim.Native.Nat.{ℕ, ◌<◌, ◌-◌}
+use Prim.Native.Nat.{◌<◌}
 use mathlib.Core.Bool.{Bool}
-use mathlib.Core.List.{List}
 use mathlib.Core.Path.{◌≡◌, ap, ◌∙◌}
-use borrow.Author.Rules.{rules}
-use lib.IntN.{ℤ}
 use lib.ListN.{length}
 use native.Mathlib.Omega.{arith}
 use Rattle.base.specs.Numbers.{number_of, unless}
 use Rattle.base.proofs.Numbers.{turns, stops_below}
-use Rattle.base.proofs.Tests.{Passed, begun, ended}
-use Rattle.road.specs.Table.{Table, metres_of, entry}
-use Rattle.workfunction.specs.Plan.{vouch_at, leg_cost}
+use Rattle.base.proofs.Tests.{begun, ended}
+use Rattle.road.specs.Table.{metres_of, entry}
+use Rattle.workfunction.specs.Plan.{leg_cost}
 use Rattle.book.specs.Book.{follower, weight}
 use Rattle.book.proofs.Vouching.{read_back, vouch_read}
 use Rattle.book.proofs.weights.test_from.Invariants.{rule}
@@ -48,9 +45,9 @@ bounds-weights-kept c = omega (arith, kept_below (goal.at.bounds-weights-kept c)
 
 pub test_at-vouched-requires : goal.test_at-vouched-requires
 test_at-vouched-requires c = (
-      rw (read_back _ c.test_at-arg-1.given) (c.requires.1.ranged _ c.loop-b-test.true),
-      rw (read_back _ c.test_at-arg-in-loop-b-1.given) (c.requires.1.ranged _ (kept_below (goal.at.test_at-vouched-requires c).Start)),
-    )
+  rw (read_back _ c.test_at-arg-1.given) (c.requires.1.ranged _ c.loop-b-test.true),
+  rw (read_back _ c.test_at-arg-in-loop-b-1.given) (c.requires.1.ranged _ (kept_below (goal.at.test_at-vouched-requires c).Start)),
+)
 
 pub returns-in_default : goal.returns-in_default
 returns-in_default c = stops_below _ c.in_default.field-0 c.in_default.is _ _ 10 _ (vouched (goal.at.returns-in_default c).After-test_at-vouched) c.loop-b-test.true

@@ -1,20 +1,14 @@
 -- `book::weights::test_from` meets its contract: the loop passes the calls and stands b for which the inequality of p holds.
 -- Assumes nothing.
-use Prim.Native.Nat.{ℕ, ◌<◌, ◌-◌}
+use Prim.Native.Nat.{ℕ, ◌-◌}
 use mathlib.Core.Bool.{Bool}
 use mathlib.Core.List.{List}
-use mathlib.Core.Path.{◌≡◌, ap, ◌∙◌}
-use borrow.Author.Rules.{rules}
 use lib.IntN.{ℤ}
 use lib.ListN.{length}
-use native.Mathlib.Omega.{arith}
-use Rattle.base.specs.Numbers.{number_of, unless}
-use Rattle.base.proofs.Numbers.{turns, stops_below}
-use Rattle.base.proofs.Tests.{Passed, begun, ended}
+use Rattle.base.proofs.Tests.{Passed}
 use Rattle.road.specs.Table.{Table, metres_of, entry}
 use Rattle.workfunction.specs.Plan.{vouch_at, leg_cost}
 use Rattle.book.specs.Book.{follower, weight}
-use Rattle.book.proofs.Vouching.{read_back, vouch_read}
 use Rattle.book.proofs.weights.test_from.Given as goal
 
 -- what the loop tests of each b

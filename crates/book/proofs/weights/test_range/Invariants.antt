@@ -3,14 +3,9 @@
 use Prim.Native.Nat.{ℕ, ◌-◌}
 use mathlib.Core.Bool.{Bool}
 use mathlib.Core.List.{List}
-use mathlib.Core.Path.{◌≡◌}
-use borrow.Author.Rules.{rules}
 use lib.IntN.{ℤ}
-use Rattle.base.specs.Numbers.{number_of, unless}
-use Rattle.base.proofs.Numbers.{holds, stops}
-use Rattle.base.proofs.Tests.{Passed, begun, turned, ended, below_fails}
+use Rattle.base.proofs.Tests.{Passed}
 use Rattle.book.specs.Book.{weight, weight_rule}
-use Rattle.book.proofs.Vouching.{read_back}
 use Rattle.book.proofs.weights.test_range.Given as goal
 
 -- what the loop tests of each weight

@@ -1,7 +1,6 @@
 -- `book::weights::test_slack` meets its contract: two weights within their range, and two legs, are near enough for their
 -- differences to fit, and the branch compares those. Assumes nothing.
 use mathlib.Core.Path.{◌≡◌, refl, sym, ◌∙◌}
-use borrow.Author.Rules.{rules}
 use lib.IntN.{pos, ◌-ℤ◌}
 use lib.Signed.{le_z}
 use mir.Syntax.{w64}

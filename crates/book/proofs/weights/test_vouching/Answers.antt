@@ -1,18 +1,8 @@
 -- `book::weights::test_vouching` meets its contract: the loop passes the stops p whose inequality holds for every b that may follow it.
 -- Assumes nothing.
-use Prim.Native.Nat.{ℕ, ◌-◌}
-use mathlib.Core.Bool.{Bool}
-use mathlib.Core.List.{List}
-use borrow.Author.Rules.{rules}
-use lib.IntN.{ℤ}
-use lib.ListN.{length}
-use Rattle.base.specs.Tests.{all_below}
 use Rattle.base.proofs.Numbers.{turns, stops_below}
-use Rattle.base.proofs.Tests.{Passed, begun, ended}
-use Rattle.road.specs.Table.{Table, metres_of, entry}
-use Rattle.workfunction.specs.Plan.{vouch_at, vouch_rule, leg_cost}
-use Rattle.book.specs.Book.{follower, weight}
-use Rattle.book.proofs.weights.test_vouching.Invariants.{rule}
+use Rattle.base.proofs.Tests.{begun, ended}
+use Rattle.workfunction.specs.Plan.{vouch_rule}
 use Rattle.book.proofs.weights.test_vouching.Goals as goal
 
 pub loop-p-init : goal.loop-p-init

@@ -3,14 +3,12 @@
 use Prim.Native.Nat.{ℕ, ◌-◌}
 use mathlib.Core.Bool.{Bool}
 use mathlib.Core.List.{List}
-use borrow.Author.Rules.{rules}
 use lib.IntN.{ℤ}
 use lib.ListN.{length}
 use Rattle.base.specs.Tests.{all_below}
-use Rattle.base.proofs.Numbers.{turns, stops_below}
-use Rattle.base.proofs.Tests.{Passed, begun, ended}
+use Rattle.base.proofs.Tests.{Passed}
 use Rattle.road.specs.Table.{Table, metres_of, entry}
-use Rattle.workfunction.specs.Plan.{vouch_at, vouch_rule, leg_cost}
+use Rattle.workfunction.specs.Plan.{vouch_at, leg_cost}
 use Rattle.book.specs.Book.{follower, weight}
 use Rattle.book.proofs.weights.test_vouching.Given as goal
 

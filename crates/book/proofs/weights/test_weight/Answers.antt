@@ -1,6 +1,5 @@
 -- `book::weights::test_weight` meets its contract: its branches are the two ends of the range.
 -- Assumes nothing.
-use borrow.Author.Rules.{rules}
 use Rattle.book.proofs.Vouching.{weight_low, weight_high, weight-within}
 use Rattle.book.proofs.weights.test_weight.Goals as goal
 

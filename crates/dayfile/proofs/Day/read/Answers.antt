@@ -40,7 +40,7 @@ kept c = progress_read _ _ (run c)
 
 -- the run of the places read is the front of the table
 legs : (c : After-legs-legs) → c.legs-legs.result ≡ leg_count c.scan-found.result.state.second
-legs c = 
+legs c =
     let read_all_here : counted c.scan-found.result.state ≡ scan 0 start (records c.args.bytes.now) = sym (ap (λ (v : Verdict). refuse_at c.scan-found.result.index (number_of v) (counted c.scan-found.result.state)) c.in-Accepted-verdict.is) ∙ c.scan-found.ensures
     in
     let run_here : Run start (records c.args.bytes.now) c.scan-found.result.state = scanned_run _ _ (read_all_here)
@@ -57,7 +57,6 @@ ways_asked n l array rs number least most e f told =
 -- 3 does not apply to the run of the places read, so the test of the ways between them decides
 ways : (c : After-test_triangles-ways) → number_of c.test_triangles-ways.result ≡ triangle_refusal c.scan-found.result.state.second (read_run c.scan-found.result.state.second (records c.args.bytes.now))
 ways c =
-    
     let read_all_here : counted c.scan-found.result.state ≡ scan 0 start (records c.args.bytes.now) = sym (ap (λ (v : Verdict). refuse_at c.scan-found.result.index (number_of v) (counted c.scan-found.result.state)) c.in-Accepted-verdict.is) ∙ c.scan-found.ensures
     in
     let run_here : Run start (records c.args.bytes.now) c.scan-found.result.state = scanned_run _ _ (read_all_here)

@@ -1,6 +1,5 @@
 -- `dayfile::Day::test` meets its contract: the refusals before the triangles are handed up, and where none applies 8 decides.
 -- Assumes nothing.
-use borrow.Author.Rules.{rules}
 use Rattle.base.proofs.Numbers.{accepts, asked_again, goes_on, handed_up}
 use Rattle.dayfile.specs.Day.{day_refusal}
 use Rattle.dayfile.proofs.Limits.{Placed, day_placed, run_tested}

@@ -27,7 +27,6 @@ counts c t n q = goes_on _ _ t n c.in-Accepted.is c.test_counts-counted.ensures 
 legs : (c : In-Accepted-legged) (t n : ℕ) → n ≡ t
     → n ≡ (legs_refusal c.args.table.now then t)
 legs c t n q =
-    
     let counted_so_here : CountsTested c.args.self.places (length c.args.table.now) c.args.self.cranes c.args.self.calls = counts_tested _ _ _ _ (accepts _ _ c.in-Accepted.is c.test_counts-counted.ensures)
     in
     goes_on _ _ t n c.in-Accepted-legged.is (asked_again _ _ _ (run_tested _ _ _ _ (counted_so_here)) c.test_legs-legged.ensures) q

@@ -1,14 +1,9 @@
 -- `dayfile::Day::test_stops` meets its contract: the loop passes the stops whose place is below the number of places.
 -- Assumes nothing.
-use Prim.Native.Nat.{ℕ, ◌-◌}
-use mathlib.Core.Bool.{Bool}
-use mathlib.Core.List.{List}
-use borrow.Author.Rules.{rules}
 use borrow.Author.Tests.{lt-ltb, le-ltb}
-use lib.Dec.{ltb}
-use lib.ListN.{length, get_or}
+use lib.ListN.{length}
 use native.Mathlib.Omega.{arith}
-use Rattle.base.proofs.Tests.{Passed, begun, turned, ended, below_fails}
+use Rattle.base.proofs.Tests.{begun, turned, ended, below_fails}
 use Rattle.dayfile.proofs.Day.test_stops.Invariants.{rule}
 use Rattle.dayfile.proofs.Day.test_stops.Goals as goal
 

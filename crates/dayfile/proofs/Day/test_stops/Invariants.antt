@@ -3,12 +3,9 @@
 use Prim.Native.Nat.{ℕ, ◌-◌}
 use mathlib.Core.Bool.{Bool}
 use mathlib.Core.List.{List}
-use borrow.Author.Rules.{rules}
-use borrow.Author.Tests.{lt-ltb, le-ltb}
 use lib.Dec.{ltb}
 use lib.ListN.{length, get_or}
-use native.Mathlib.Omega.{arith}
-use Rattle.base.proofs.Tests.{Passed, begun, turned, ended, below_fails}
+use Rattle.base.proofs.Tests.{Passed}
 use Rattle.dayfile.proofs.Day.test_stops.Given as goal
 
 -- what the loop tests of each stop

@@ -33,7 +33,7 @@ long c = length-day c.args.self c.args.table.now (length-starts _ (arrays c) (co
 
 -- the records of the legs
 counted : (c : After-legs) → c.legs.result ≡ leg_count c.args.self.places
-counted c = 
+counted c =
     let tested_here : day_refusal c.args.self c.args.table.now ≡ 0 = accepts _ _ c.in-Accepted.is c.test-tested.ensures
     in
     let counts_here : CountsTested c.args.self.places (length c.args.table.now) c.args.self.cranes c.args.self.calls = (day-tested _ _ (tested_here)).counts

@@ -1,6 +1,5 @@
 -- `dayfile::codec::put_four` meets its contract: the stores, one after another, are the number's bytes written from `at`.
 -- Assumes nothing.
-use borrow.Author.Rules.{rules}
 use lib.ListN.{length-set}
 use native.Mathlib.Omega.{arith}
 use Rattle.dayfile.proofs.codec.Laws.{stored}

@@ -1,6 +1,5 @@
 -- `dayfile::codec::read_four` meets its contract: two numbers of two bytes, the second 65,536 times.
 -- Assumes nothing.
-use borrow.Author.Rules.{rules}
 use Rattle.dayfile.proofs.codec.Laws.{four_by_twos}
 use Rattle.dayfile.proofs.codec.read_four.Goals as goal
 

@@ -1,7 +1,6 @@
 -- `dayfile::codec::read_two` meets its contract: the bytes are below 256, so the number fits.
 -- Assumes nothing.
 use Prim.Native.Nat.{◌+◌, ◌<◌}
-use borrow.Author.Rules.{rules}
 use lib.ListN.{get_or}
 use native.Mathlib.Omega.{arith}
 use Rattle.dayfile.proofs.codec.Laws.{two_by_bytes}

@@ -1,15 +1,14 @@
 -- `dayfile::legs::put` meets its contract: the legs to each place are written behind those to the earlier ones.
 -- Assumes nothing.
-use Prim.Native.Nat.{ℕ, ◌+◌, ◌-◌, ◌*◌, ◌<◌, ◌≤◌, zero-le}
+use Prim.Native.Nat.{ℕ, ◌+◌, ◌*◌, ◌<◌, ◌≤◌, zero-le}
 use mathlib.Core.List.{List}
 use mathlib.Core.Path.{◌≡◌, refl}
-use borrow.Author.Rules.{rules}
 use lib.ListN.{length}
 use native.Mathlib.Nat.{zero-add}
 use native.Mathlib.Omega.{arith}
 use Rattle.base.specs.Lists.{up_to, splice}
 use Rattle.base.proofs.Lists.{splice_ended}
-use Rattle.road.specs.Table.{metres_of, leg_count, in_order}
+use Rattle.road.specs.Table.{leg_count, in_order}
 use Rattle.road.proofs.Order.{legs_before, leg_count_more, in_order_more, length-in_order}
 use Rattle.dayfile.specs.Codec.{encode_all}
 use Rattle.dayfile.specs.Legs.{leg, leg_records}

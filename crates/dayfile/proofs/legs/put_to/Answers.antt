@@ -1,17 +1,15 @@
 -- `dayfile::legs::put_to` meets its contract: the loop writes the legs' records one behind another.
 -- Assumes nothing.
-use Prim.Native.Nat.{◌-◌}
 use mathlib.Core.Path.{◌≡◌, ap, ◌∙◌}
 use borrow.Author.Rules.{rules}
 use native.Mathlib.Nat.{le_of_lt}
 use native.Mathlib.Omega.{arith}
-use Rattle.base.specs.Lists.{up_to}
 use Rattle.base.proofs.Lists.{splice_ended}
-use Rattle.road.specs.Table.{leg_count, metres_of}
+use Rattle.road.specs.Table.{leg_count}
 use Rattle.road.proofs.Order.{legs_counted}
 use Rattle.road.proofs.Table.{entry_in}
 use Rattle.dayfile.specs.Legs.{leg}
-use Rattle.dayfile.proofs.codec.Laws.{Put, put_one_begun, put_one_turned}
+use Rattle.dayfile.proofs.codec.Laws.{put_one_begun, put_one_turned}
 use Rattle.dayfile.proofs.legs.put_to.Goals as goal
 use Rattle.dayfile.proofs.legs.put_to.Goals.{After-legs-from}
 

@@ -1,6 +1,5 @@
 -- `dayfile::scan::next` meets its contract: its branches are the cases of `after`.
 -- Assumes nothing.
-use borrow.Author.Rules.{rules}
 use borrow.Author.Tests.{eq-eqb, ne_eqb}
 use Rattle.dayfile.specs.Scan.{after_leg, after}
 use Rattle.dayfile.proofs.scan.next.Goals as goal

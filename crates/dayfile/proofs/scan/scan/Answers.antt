@@ -1,9 +1,8 @@
 -- `dayfile::scan::scan` meets its contract: the scan from the record at hand on gives what the scan of the whole file gives.
 -- Assumes nothing.
-use Prim.Native.Nat.{ℕ, ◌+◌, ◌-◌, ◌*◌, ◌/◌, ◌<◌, ◌≤◌, zero-le}
+use Prim.Native.Nat.{ℕ, ◌+◌, ◌*◌, ◌/◌, ◌<◌, ◌≤◌, zero-le}
 use mathlib.Core.List.{List}
 use mathlib.Core.Path.{◌≡◌, refl, sym, ap, subst⁻¹, ◌∙◌}
-use borrow.Author.Rules.{rules}
 use lib.ListN.{length, get_or, drop}
 use native.Mathlib.Omega.{arith}
 use Rattle.base.proofs.Numbers.{refused_number}
@@ -14,7 +13,7 @@ use Rattle.dayfile.specs.Codec.{decode, records}
 use Rattle.dayfile.specs.Legs.{none}
 use Rattle.dayfile.specs.Scan.{start, after, record_refusal, end_refusal, counted, refuse_at, scan}
 use Rattle.dayfile.proofs.codec.Laws.{length-records, record_at}
-use Rattle.dayfile.proofs.scan.Laws.{Progress, progress_start, progress_after, accepted, scan-stops, scan_goes_on, scan_ends}
+use Rattle.dayfile.proofs.scan.Laws.{progress_start, progress_after, accepted, scan-stops, scan_goes_on, scan_ends}
 use Rattle.dayfile.proofs.scan.scan.Invariants.{Scanned}
 use Rattle.dayfile.proofs.scan.scan.Goals as goal
 

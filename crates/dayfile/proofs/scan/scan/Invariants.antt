@@ -1,20 +1,13 @@
 -- `dayfile::scan::scan` meets its contract: the scan from the record at hand on gives what the scan of the whole file gives.
 -- Assumes nothing.
-use Prim.Native.Nat.{ℕ, ◌+◌, ◌-◌, ◌*◌, ◌/◌, ◌<◌, ◌≤◌, zero-le}
+use Prim.Native.Nat.{ℕ, ◌-◌, ◌/◌, ◌≤◌}
 use mathlib.Core.List.{List}
-use mathlib.Core.Path.{◌≡◌, refl, sym, ap, subst⁻¹, ◌∙◌}
-use borrow.Author.Rules.{rules}
-use lib.ListN.{length, get_or, drop}
-use native.Mathlib.Omega.{arith}
-use Rattle.base.proofs.Numbers.{refused_number}
-use Rattle.base.specs.Numbers.{number_of}
-use Rattle.dayfile.specs.declared.codec.Record.{Record}
+use mathlib.Core.Path.{◌≡◌}
+use lib.ListN.{length, drop}
 use Rattle.dayfile.specs.declared.scan.State.{State}
-use Rattle.dayfile.specs.Codec.{decode, records}
-use Rattle.dayfile.specs.Legs.{none}
-use Rattle.dayfile.specs.Scan.{start, after, record_refusal, end_refusal, counted, refuse_at, scan}
-use Rattle.dayfile.proofs.codec.Laws.{length-records, record_at}
-use Rattle.dayfile.proofs.scan.Laws.{Progress, progress_start, progress_after, accepted, scan-stops, scan_goes_on, scan_ends}
+use Rattle.dayfile.specs.Codec.{records}
+use Rattle.dayfile.specs.Scan.{start, scan}
+use Rattle.dayfile.proofs.scan.Laws.{Progress}
 use Rattle.dayfile.proofs.scan.scan.Given as goal
 
 -- the loop's invariant: what has been read, and the index of the next record

@@ -1,6 +1,5 @@
 -- `dayfile::scan::test_call` meets its contract: a refusal of the stop is handed up, and else the number of calls decides.
 -- Assumes nothing.
-use borrow.Author.Rules.{rules}
 use borrow.Author.Tests.{lt-ltb, le-ltb}
 use Rattle.base.proofs.Numbers.{goes_on, handed_up}
 use Rattle.dayfile.specs.Scan.{call_refusal}

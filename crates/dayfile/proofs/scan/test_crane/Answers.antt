@@ -1,6 +1,5 @@
 -- `dayfile::scan::test_crane` meets its contract: 3 for a crane after a call, and else the test of a stop decides.
 -- Assumes nothing.
-use borrow.Author.Rules.{rules}
 use borrow.Author.Tests.{eq-eqb, ne_eqb}
 use Rattle.dayfile.specs.Scan.{crane_refusal}
 use Rattle.dayfile.proofs.scan.test_crane.Goals as goal

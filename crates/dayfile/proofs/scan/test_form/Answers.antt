@@ -1,6 +1,5 @@
 -- `dayfile::scan::test_form` meets its contract: each test that fails gives its refusal, once those before it held.
 -- Assumes nothing.
-use borrow.Author.Rules.{rules}
 use borrow.Author.Tests.{eq-eqb, ne_eqb}
 use mathlib.Core.Bool.{true}
 use mathlib.Core.Path.{◌≡◌}

@@ -1,6 +1,5 @@
 -- `dayfile::scan::test_leg` meets its contract: each test that fails gives its refusal, once those before it held.
 -- Assumes nothing.
-use borrow.Author.Rules.{rules}
 use borrow.Author.Tests.{eq-eqb, ne_eqb, lt-ltb, le-ltb}
 use Rattle.road.specs.Table.{most_places}
 use Rattle.dayfile.specs.Scan.{leg_refusal}

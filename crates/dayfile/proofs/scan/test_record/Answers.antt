@@ -1,6 +1,5 @@
 -- `dayfile::scan::test_record` meets its contract: 2 is handed up, and else the test of its kind decides.
 -- Assumes nothing.
-use borrow.Author.Rules.{rules}
 use borrow.Author.Tests.{eq-eqb, ne_eqb}
 use Rattle.base.proofs.Numbers.{goes_on, handed_up}
 use Rattle.dayfile.specs.Scan.{record_refusal}

@@ -1,7 +1,6 @@
 -- `dayfile::scan::test_stop` meets its contract: each test that fails gives its refusal, once those before it held.
 -- Assumes nothing.
-use borrow.Author.Rules.{rules}
-use borrow.Author.Tests.{eq-eqb, ne_eqb, lt-ltb, le-ltb, not-true, not-false}
+use borrow.Author.Tests.{eq-eqb, ne_eqb, lt-ltb, le-ltb}
 use Rattle.dayfile.specs.Scan.{stop_refusal}
 use Rattle.dayfile.proofs.scan.test_stop.Goals as goal
 

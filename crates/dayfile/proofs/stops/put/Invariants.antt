@@ -1,14 +1,10 @@
 -- `dayfile::stops::put` meets its contract: the loop writes the stops' records one behind another.
 -- Assumes nothing.
 use Prim.Native.Nat.{◌-◌}
-use mathlib.Core.Path.{refl, ◌∙◌}
-use borrow.Author.Rules.{rules}
 use lib.ListN.{length, get_or}
-use native.Mathlib.Omega.{arith}
 use Rattle.base.specs.Lists.{up_to}
-use Rattle.base.proofs.Lists.{map_by_index, splice_ended}
 use Rattle.dayfile.specs.Day.{stop}
-use Rattle.dayfile.proofs.codec.Laws.{Put, put_one_begun, put_one_turned}
+use Rattle.dayfile.proofs.codec.Laws.{Put}
 use Rattle.dayfile.proofs.stops.put.Given as goal
 
 abbrev pub invariant-loop-i : goal.invariant-loop-i

@@ -1,7 +1,6 @@
 -- `dispatch::Dispatch::net_costs` meets its contract: a refusal is handed up with zeros, else the list is told. Assumes nothing.
 use Prim.Native.Nat.{ℕ}
 use mathlib.Core.Path.{◌≡◌, ◌∙◌}
-use borrow.Author.Rules.{rules}
 use lib.IntN.{pos}
 use lib.ListN.{replicate}
 use Rattle.base.proofs.Numbers.{zeros_told, accepts, refused_number}

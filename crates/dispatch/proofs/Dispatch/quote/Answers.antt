@@ -1,7 +1,6 @@
 -- `dispatch::Dispatch::quote` meets its contract: a refusal is handed up with zeros, else the call is quoted. Assumes nothing.
 use Prim.Native.Nat.{ℕ}
 use mathlib.Core.Path.{◌≡◌, ◌∙◌}
-use borrow.Author.Rules.{rules}
 use Rattle.base.proofs.Numbers.{zeros_told, accepts, refused_number}
 use Rattle.road.specs.Table.{Table}
 use Rattle.book.specs.declared.Book.{Book}

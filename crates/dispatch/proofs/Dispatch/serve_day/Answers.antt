@@ -2,7 +2,6 @@
 -- Assumes nothing.
 use Prim.Native.Nat.{ℕ, zero, suc}
 use mathlib.Core.Path.{◌≡◌, refl, ap, ◌∙◌}
-use borrow.Author.Rules.{rules}
 use Rattle.base.specs.Numbers.{unless_refused, number_of}
 use Rattle.base.proofs.Numbers.{zeros_told, accepts, refused_number}
 use Rattle.road.specs.Table.{Table}

@@ -1,5 +1,4 @@
 -- `dispatch::calls::take` meets its contract: there is room for the call, and the end that follows it is the least one. Assumes nothing.
-use borrow.Author.Rules.{rules}
 use native.Mathlib.Nat.{le_trans}
 use native.Mathlib.Omega.{arith}
 use Rattle.dispatch.proofs.Taken.{kept_witnessed}
@@ -12,19 +11,19 @@ extend-requires c = (movable_few c.requires.movable, (le_trans c.requires.on c.r
 
 pub insert-requires : goal.insert-requires
 insert-requires c = record {
-      crane = c.requires.movable.kept.asked.day.crane;
-      cranes = c.requires.movable.kept.asked.cranes;
-      stops = omega arith;
-      ends = λ e h. h;
-      plan_long = movable_long c.requires.movable;
-      weights_long = le_trans (movable_few c.requires.movable) c.requires.movable.weights_long;
-      costed = c.extend.ensures.costed;
-      witnessed = kept_witnessed c.requires.movable.legible c.requires.movable.kept (movable_few c.requires.movable) (movable_long c.requires.movable) c.requires.on c.extend.ensures;
-    }
+  crane = c.requires.movable.kept.asked.day.crane;
+  cranes = c.requires.movable.kept.asked.cranes;
+  stops = omega arith;
+  ends = λ e h. h;
+  plan_long = movable_long c.requires.movable;
+  weights_long = le_trans (movable_few c.requires.movable) c.requires.movable.weights_long;
+  costed = c.extend.ensures.costed;
+  witnessed = kept_witnessed c.requires.movable.legible c.requires.movable.kept (movable_few c.requires.movable) (movable_long c.requires.movable) c.requires.on c.extend.ensures;
+}
 
 pub returns : goal.returns
 returns c = record {
-      there = λ n stands movable on space.
-          call_taken movable on c.extend.ensures c.insert.new.plan c.insert.new.weights c.insert.ensures.taken
-          c.insert.ensures.chosen space (omega (arith, c.insert.auto, movable.plan_long)) (omega (arith, c.insert.auto, movable.weights_long));
-    }
+  there = λ n stands movable on space.
+      call_taken movable on c.extend.ensures c.insert.new.plan c.insert.new.weights c.insert.ensures.taken
+      c.insert.ensures.chosen space (omega (arith, c.insert.auto, movable.plan_long)) (omega (arith, c.insert.auto, movable.weights_long));
+}

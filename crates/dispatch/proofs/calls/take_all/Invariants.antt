@@ -1,15 +1,11 @@
 -- `dispatch::calls::take_all` meets its contract: after each turn the calls so far are in the plan. Assumes nothing.
 use Prim.Native.Nat.{ℕ, ◌-◌, ◌<◌, ◌≤◌}
 use mathlib.Core.List.{List, []}
-use mathlib.Core.Path.{◌≡◌, refl, sym}
-use borrow.Author.Rules.{rules}
+use mathlib.Core.Path.{◌≡◌}
 use lib.IntN.{ℤ}
 use lib.ListN.{length, get_or, take}
-use lib.Seq.{length-take-le}
-use native.Mathlib.Omega.{arith}
 use Rattle.road.specs.Table.{metres_of, entry}
 use Rattle.dispatch.specs.Insertion.{Movable}
-use Rattle.dispatch.proofs.calls.Laws.{taking_turned, taking_ended}
 use Rattle.dispatch.proofs.calls.take_all.Given as goal
 
 -- the invariant, of lists that keep their lengths

@@ -1,21 +1,7 @@
 -- `dispatch::choice::choose` meets its contract: the loop keeps the end preferred of those below e, with its sum and its way.
 -- Assumes nothing.
-use Prim.Native.Nat.{ℕ, ◌+◌, ◌-◌, ◌<◌, ◌≤◌}
-use mathlib.Core.Bool.{Bool, true, false, ◌&&◌, ◌||◌, false≢true}
-use mathlib.Core.List.{List, [], ◌∷◌}
-use mathlib.Core.Logic.{⊎_elim}
-use mathlib.Core.Path.{◌≡◌, sym, ◌∙◌}
-use borrow.Author.Rules.{rules}
-use borrow.Author.Tests.{ltb-true, ltb-false}
-use lib.Dec.{ltb, eqb}
-use native.Mathlib.Nat.{le_antisymm}
 use native.Mathlib.Omega.{arith}
-use Rattle.base.proofs.Tests.{by_order, key_lower, key_tied, key_higher}
-use Rattle.workfunction.specs.Choice.{preferred}
-use Rattle.workfunction.proofs.Keys.{NoLater, no_later_by_number, no_later_by, preferred_below, preferred_stays, preferred_gives_way}
-use Rattle.dispatch.specs.Legs.{leg_at}
-use Rattle.dispatch.specs.Search.{at}
-use Rattle.dispatch.proofs.choice.choose.Invariants.{test, test_true, test_false, sum, keys, Choosing, choose_begun, choose_ended, choose_kept, choose_taken}
+use Rattle.dispatch.proofs.choice.choose.Invariants.{choose_begun, choose_ended, choose_kept, choose_taken}
 use Rattle.dispatch.proofs.choice.choose.Goals as goal
 use Rattle.dispatch.proofs.choice.choose.Goals.{else-better, then-better}
 

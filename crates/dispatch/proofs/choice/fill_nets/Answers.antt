@@ -1,21 +1,10 @@
 -- `dispatch::choice::fill_nets` meets its contract: the loop has entered the stops below p, each at its follower where that is an end.
 -- No end is entered twice, since it follows one stop, and every end is, since it follows a stop. Assumes nothing.
-use Prim.Native.Nat.{ℕ, ◌+◌, ◌-◌, ◌<◌, ◌≤◌}
-use mathlib.Core.List.{List}
-use mathlib.Core.Logic.{⊎_elim}
-use mathlib.Core.Path.{◌≡◌, refl, ◌∙◌}
-use borrow.Author.Rules.{rules}
-use lib.ListN.{length, set, length-set}
-use lib.Seq.{get_or-set_same, get_or-set_other}
 use native.Mathlib.Nat.{le_of_lt}
 use native.Mathlib.Omega.{arith}
-use Rattle.base.proofs.Tests.{one_more}
-use Rattle.workfunction.proofs.Plan.{Plan, plan_facts, stop_before, stop_only}
+use Rattle.workfunction.proofs.Plan.{Plan, plan_facts}
 use Rattle.book.specs.Book.{follower}
-use Rattle.dispatch.specs.Legs.{leg_at}
-use Rattle.dispatch.specs.Search.{at, net_of}
-use Rattle.dispatch.specs.Insertion.{Freed}
-use Rattle.dispatch.proofs.choice.fill_nets.Invariants.{Freeing, free_begun, free_kept, free_taken, free_ended}
+use Rattle.dispatch.proofs.choice.fill_nets.Invariants.{free_begun, free_kept, free_taken, free_ended}
 use Rattle.dispatch.proofs.choice.fill_nets.Goals as goal
 use Rattle.dispatch.proofs.choice.fill_nets.Goals.{Start, else-b-cranes, then-b-cranes}
 
@@ -33,8 +22,11 @@ pub overflow_sub-nets : goal.overflow_sub-nets
 overflow_sub-nets c = omega (arith, c.cost.ensures, c.requires.totalled.legs c.loop-p.p (le_of_lt c.loop-p-test.true))
 
 pub loop-p-preserved : goal.loop-p-preserved
-loop-p-preserved c = elim c.if-b-cranes.branch [ then-b-cranes w ↦ rw (w.nets-is, w.before-is) (free_taken _ _ _ _ _ _ c.loop-p.invariant (planned (goal.at.loop-p-preserved c).Start) c.loop-p-test.true w.if-b-cranes.true c.requires.netted c.requires.freed
-    (rw w.cost.ensures)) | else-b-cranes w ↦ rw (w.nets-is, w.before-is) (free_kept _ _ _ _ _ _ c.loop-p.invariant c.loop-p-test.true w.if-b-cranes.false) ]
+loop-p-preserved c = elim c.if-b-cranes.branch [
+  | then-b-cranes w ↦ rw (w.nets-is, w.before-is) (free_taken _ _ _ _ _ _ c.loop-p.invariant (planned (goal.at.loop-p-preserved c).Start) c.loop-p-test.true w.if-b-cranes.true c.requires.netted c.requires.freed
+      (rw w.cost.ensures))
+  | else-b-cranes w ↦ rw (w.nets-is, w.before-is) (free_kept _ _ _ _ _ _ c.loop-p.invariant c.loop-p-test.true w.if-b-cranes.false)
+]
 
 pub returns : goal.returns
 returns c = free_ended _ _ _ _ _ _ c.loop-p.invariant (planned (goal.at.returns c).Start) c.requires.cranes c.loop-p-test.false

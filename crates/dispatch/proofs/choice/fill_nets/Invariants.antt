@@ -2,15 +2,12 @@
 -- No end is entered twice, since it follows one stop, and every end is, since it follows a stop. Assumes nothing.
 use Prim.Native.Nat.{ℕ, ◌+◌, ◌-◌, ◌<◌, ◌≤◌}
 use mathlib.Core.List.{List}
-use mathlib.Core.Logic.{⊎_elim}
 use mathlib.Core.Path.{◌≡◌, refl, ◌∙◌}
-use borrow.Author.Rules.{rules}
 use lib.ListN.{length, set, length-set}
 use lib.Seq.{get_or-set_same, get_or-set_other}
-use native.Mathlib.Nat.{le_of_lt}
 use native.Mathlib.Omega.{arith}
 use Rattle.base.proofs.Tests.{one_more}
-use Rattle.workfunction.proofs.Plan.{Plan, plan_facts, stop_before, stop_only}
+use Rattle.workfunction.proofs.Plan.{Plan, stop_before, stop_only}
 use Rattle.book.specs.Book.{follower}
 use Rattle.dispatch.specs.Legs.{leg_at}
 use Rattle.dispatch.specs.Search.{at, net_of}

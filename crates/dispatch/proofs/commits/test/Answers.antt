@@ -1,7 +1,6 @@
 -- `dispatch::commits::test` meets its contract: a refusal of the book is handed up, else the place is tested, then the crane, then the
 -- space. Assumes nothing.
 use mathlib.Core.Path.{ap₂, ◌∙◌}
-use borrow.Author.Rules.{rules}
 use Rattle.base.specs.Numbers.{◌then◌}
 use Rattle.base.proofs.Numbers.{goes_on, handed_up}
 use Rattle.dispatch.proofs.commits.test.Goals as goal

@@ -1,6 +1,5 @@
 -- `dispatch::ends::least` meets its contract: with all ends moved the plan costs the least of all plans to them. Assumes nothing.
 use mathlib.Core.Path.{◌∙◌}
-use borrow.Author.Rules.{rules}
 use native.Mathlib.Omega.{arith}
 use Rattle.workfunction.proofs.Plan.{plan_facts}
 use Rattle.dispatch.proofs.ends.Laws.{movable_few, movable_long, movable_least}

@@ -1,16 +1,10 @@
 -- `dispatch::ends::move_all` meets its contract: after each turn the ends so far are at their places, and the others where they were.
 -- Assumes nothing.
-use Prim.Native.Nat.{ℕ, ◌-◌}
-use mathlib.Core.List.{List}
-use mathlib.Core.Path.{◌≡◌, refl}
+use mathlib.Core.Path.{refl}
 use borrow.Author.Rules.{rules}
-use lib.IntN.{ℤ}
-use lib.ListN.{length}
 use native.Mathlib.Omega.{arith}
 use Rattle.road.specs.Table.{metres_of, entry}
-use Rattle.dispatch.specs.Insertion.{EndsGiven}
 use Rattle.dispatch.proofs.ends.Laws.{Moving, moving_begun, moving_on, moving_turned, moving_ended}
-use Rattle.dispatch.proofs.ends.move_all.Invariants.{Going}
 use Rattle.dispatch.proofs.ends.move_all.Goals as goal
 use Rattle.dispatch.proofs.ends.move_all.Goals.{At-loop-end}
 
@@ -42,11 +36,11 @@ overflow_add-end c = omega (arith, c.requires.movable.kept.asked.cranes, c.loop-
 
 pub loop-end-preserved : goal.loop-end-preserved
 loop-end-preserved c = record {
-      planned = search rules;
-      weighed = search rules;
-      costed = search rules;
-      moving = λ given. moving_turned (c.loop-end.invariant.moving given) c.loop-end-test.true c.move_end.ensures;
-    }
+  planned = search rules;
+  weighed = search rules;
+  costed = search rules;
+  moving = λ given. moving_turned (c.loop-end.invariant.moving given) c.loop-end-test.true c.move_end.ensures;
+}
 
 pub returns : goal.returns
 returns c = moving_ended (moving (goal.at.returns c).At-loop-end) c.loop-end-test.false

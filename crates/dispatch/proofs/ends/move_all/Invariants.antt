@@ -2,14 +2,12 @@
 -- Assumes nothing.
 use Prim.Native.Nat.{ℕ, ◌-◌}
 use mathlib.Core.List.{List}
-use mathlib.Core.Path.{◌≡◌, refl}
-use borrow.Author.Rules.{rules}
+use mathlib.Core.Path.{◌≡◌}
 use lib.IntN.{ℤ}
 use lib.ListN.{length}
-use native.Mathlib.Omega.{arith}
 use Rattle.road.specs.Table.{metres_of, entry}
 use Rattle.dispatch.specs.Insertion.{EndsGiven}
-use Rattle.dispatch.proofs.ends.Laws.{Moving, moving_begun, moving_on, moving_turned, moving_ended}
+use Rattle.dispatch.proofs.ends.Laws.{Moving}
 use Rattle.dispatch.proofs.ends.move_all.Given as goal
 
 -- the invariant, of lists that keep their lengths

@@ -30,15 +30,15 @@ extend-requires c = (few (goal.at.extend-requires c).Start, (on_road (goal.at.ex
 
 pub insert-requires : goal.insert-requires
 insert-requires c = record {
-      crane = c.requires.movable.kept.asked.day.crane;
-      cranes = c.requires.movable.kept.asked.cranes;
-      stops = omega arith;
-      ends = λ e h. c.requires.end;
-      plan_long = movable_long c.requires.movable;
-      weights_long = le_trans (few (goal.at.insert-requires c).Start) c.requires.movable.weights_long;
-      costed = c.extend.ensures.costed;
-      witnessed = kept_witnessed c.requires.movable.legible c.requires.movable.kept (few (goal.at.insert-requires c).Start) (movable_long c.requires.movable) c.requires.on c.extend.ensures;
-    }
+  crane = c.requires.movable.kept.asked.day.crane;
+  cranes = c.requires.movable.kept.asked.cranes;
+  stops = omega arith;
+  ends = λ e h. c.requires.end;
+  plan_long = movable_long c.requires.movable;
+  weights_long = le_trans (few (goal.at.insert-requires c).Start) c.requires.movable.weights_long;
+  costed = c.extend.ensures.costed;
+  witnessed = kept_witnessed c.requires.movable.legible c.requires.movable.kept (few (goal.at.insert-requires c).Start) (movable_long c.requires.movable) c.requires.on c.extend.ensures;
+}
 
 pub overflow_cast-stops : goal.overflow_cast-stops
 overflow_cast-stops c = let room = few (goal.at.overflow_cast-stops c).Start in omega arith
@@ -63,8 +63,8 @@ put-requires c = let low = end_low (goal.at.put-requires c).Start in
 
 pub returns : goal.returns
 returns c = record {
-      there = λ n stands movable on.
-          end_moved movable on c.extend.ensures c.insert.new.plan c.insert.new.weights
-          (sent_taken c.insert.ensures.chosen c.insert.ensures.taken) c.put.ensures c.replace.ensures
-          (omega (arith, c.insert.auto, movable.plan_long)) (omega (arith, c.insert.auto, movable.weights_long));
-    }
+  there = λ n stands movable on.
+      end_moved movable on c.extend.ensures c.insert.new.plan c.insert.new.weights
+      (sent_taken c.insert.ensures.chosen c.insert.ensures.taken) c.put.ensures c.replace.ensures
+      (omega (arith, c.insert.auto, movable.plan_long)) (omega (arith, c.insert.auto, movable.weights_long));
+}

@@ -1,18 +1,12 @@
 -- `dispatch::flip::flip` meets its contract: the loop walks along the parents and swaps, to ever lower ranks, until it comes to
 -- the new call, which alone has the rank 0. Assumes nothing.
-use Prim.Native.Nat.{ℕ, ◌<◌, ◌≤◌}
-use mathlib.Core.List.{List}
-use mathlib.Core.Logic.{⊎_elim}
-use mathlib.Core.Path.{◌≡◌, refl, subst, ◌∙◌}
+use Prim.Native.Nat.{◌<◌}
 use borrow.Author.Rules.{rules}
-use lib.ListN.{length, set, length-set}
-use lib.Seq.{get_or-set_other}
-use native.Mathlib.Nat.{eq-or-lt_of_le}
+use lib.ListN.{length}
 use native.Mathlib.Omega.{arith}
-use Rattle.workfunction.specs.NetCost.{Chains, Flipped}
-use Rattle.workfunction.proofs.Flip.{Flipping, flip_begun, flip_turned, flip_ended, parent_other, set_swapped}
+use Rattle.workfunction.specs.NetCost.{Chains}
 use Rattle.dispatch.specs.Search.{at}
-use Rattle.dispatch.proofs.flip.flip.Invariants.{Walking, walk_begun, walk_on, walk_new, walk_turned, walk_ended}
+use Rattle.dispatch.proofs.flip.flip.Invariants.{walk_begun, walk_on, walk_turned, walk_ended}
 use Rattle.dispatch.proofs.flip.flip.Goals as goal
 use Rattle.dispatch.proofs.flip.flip.Goals.{In-loop-here}
 

@@ -24,7 +24,6 @@ called c i h = c.requires.asked.day.called (entry_in _ i h)
 own : (c : After-fill) → Movable c.requires.places (entry (metres_of c.args.table.now)) c.args.starts.now [] c.args.starts.now
     c.own-plan.result c.zeros-weights.result c.fill.new.costs
 own c =
-    
     let uncalled_here : Asked c.requires.places c.args.starts.now [] = record { day = instance_first 0 c.requires.asked.day; cranes = c.requires.asked.cranes; few = search rules }
     in
     own_movable _ _ c.requires.legible (uncalled_here) c.own-plan.ensures c.zeros-weights.ensures c.fill.ensures
@@ -33,7 +32,6 @@ own c =
 taken : (c : After-take_all) → Movable c.requires.places (entry (metres_of c.args.table.now)) c.args.starts.now c.args.requests.now c.args.starts.now
     c.take_all.new.plan c.take_all.new.weights c.take_all.new.costs
 taken c =
-    
     let called_here : (i : ℕ) → i < length c.args.requests.now → get_or c.args.requests.now i 0 < c.requires.places = λ i h. c.requires.asked.day.called (entry_in _ i h)
     in
     let uncalled_here : Asked c.requires.places c.args.starts.now [] = record { day = instance_first 0 c.requires.asked.day; cranes = c.requires.asked.cranes; few = search rules }
@@ -48,12 +46,12 @@ own-plan-requires c = omega (arith, c.requires.asked.cranes)
 
 pub fill-requires : goal.fill-requires
 fill-requires c = record {
-      aligned = refl;
-      few = omega (arith, c.requires.asked.cranes);
-      stood = λ i h. le_trans (c.requires.asked.day.started.placed (entry_in _ i h)) c.requires.legible.few;
-      called = λ i h. absurd (not-suc-le-zero h);
-      costed = c.zeros-costs.ensures;
-    }
+  aligned = refl;
+  few = omega (arith, c.requires.asked.cranes);
+  stood = λ i h. le_trans (c.requires.asked.day.started.placed (entry_in _ i h)) c.requires.legible.few;
+  called = λ i h. absurd (not-suc-le-zero h);
+  costed = c.zeros-costs.ensures;
+}
 
 pub take_all-requires : goal.take_all-requires
 take_all-requires c = record { places = c.requires.places; stands = c.args.starts.now; movable = own (goal.at.take_all-requires c).After-fill; called = called (goal.at.take_all-requires c).Start; few = c.requires.asked.few }

@@ -1,5 +1,4 @@
 -- `dispatch::insert::end` meets its contract: the end given, or the one chosen. Assumes nothing.
-use borrow.Author.Rules.{rules}
 use Rattle.dispatch.proofs.insert.end.Goals as goal
 
 pub returns-in_default : goal.returns-in_default

@@ -7,16 +7,16 @@ use Rattle.dispatch.proofs.insert.find.Goals as goal
 
 pub search-requires : goal.search-requires
 search-requires c = record {
-      self = taken_self c.args.new c.args.plan.now c.requires.sized.planned;
-      sized = record {
-        planned = rw length-set c.requires.sized.planned;
-        costed = c.requires.sized.costed;
-        totalled = c.requires.sized.totalled;
-        parented = c.requires.sized.parented;
-        ranked = c.requires.sized.ranked;
-      };
-      witnessed = taken_witnessed c.requires.witnessed;
-    }
+  self = taken_self c.args.new c.args.plan.now c.requires.sized.planned;
+  sized = record {
+    planned = rw length-set c.requires.sized.planned;
+    costed = c.requires.sized.costed;
+    totalled = c.requires.sized.totalled;
+    parented = c.requires.sized.parented;
+    ranked = c.requires.sized.ranked;
+  };
+  witnessed = taken_witnessed c.requires.witnessed;
+}
 
 pub fill_nets-requires : goal.fill_nets-requires
 fill_nets-requires c = let w = taken_witnessed c.requires.witnessed in

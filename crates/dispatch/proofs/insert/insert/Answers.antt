@@ -70,33 +70,33 @@ end_within c = omega (arith, end_below c, c.requires.cranes)
 
 pub find-requires : goal.find-requires
 find-requires c = record {
-      cranes = c.requires.stops;
-      netted = c.requires.cranes;
-      freed = c.requires.cranes;
-      sized = record { planned = long (goal.at.find-requires c).Start; costed = c.requires.costed; totalled = c.requires.witnessed.few; parented = c.requires.witnessed.few; ranked = c.requires.witnessed.few };
-      witnessed = c.requires.witnessed;
-    }
+  cranes = c.requires.stops;
+  netted = c.requires.cranes;
+  freed = c.requires.cranes;
+  sized = record { planned = long (goal.at.find-requires c).Start; costed = c.requires.costed; totalled = c.requires.witnessed.few; parented = c.requires.witnessed.few; ranked = c.requires.witnessed.few };
+  witnessed = c.requires.witnessed;
+}
 
 pub end-end-requires : goal.end-end-requires
 end-end-requires c = record {
-      crane = c.requires.crane;
-      cranes = c.requires.cranes;
-      few = c.requires.witnessed.few;
-      netted = search rules;
-      costed = c.requires.costed;
-      low = ends_low c.find.ensures.1;
-    }
+  crane = c.requires.crane;
+  cranes = c.requires.cranes;
+  few = c.requires.witnessed.few;
+  netted = search rules;
+  costed = c.requires.costed;
+  low = ends_low c.find.ensures.1;
+}
 
 pub renew-requires : goal.renew-requires
 renew-requires c = record {
-      few = c.requires.witnessed.few;
-      planned = omega (arith, long (goal.at.renew-requires c).Start, c.find.auto.plan);
-      totals_long = search rules;
-      weighed = omega (arith, c.requires.witnessed.few, c.requires.weights_long);
-      costed = c.requires.costed;
-      matched = rw c.find.ensures.0 (matched (goal.at.renew-requires c).Start);
-      totalled = c.find.ensures.1.searched.totals;
-    }
+  few = c.requires.witnessed.few;
+  planned = omega (arith, long (goal.at.renew-requires c).Start, c.find.auto.plan);
+  totals_long = search rules;
+  weighed = omega (arith, c.requires.witnessed.few, c.requires.weights_long);
+  costed = c.requires.costed;
+  matched = rw c.find.ensures.0 (matched (goal.at.renew-requires c).Start);
+  totalled = c.find.ensures.1.searched.totals;
+}
 
 pub offset_bounds-before-end : goal.offset_bounds-before-end
 offset_bounds-before-end c = omega (arith, end_within (goal.at.offset_bounds-before-end c).After-end-end)
@@ -106,12 +106,12 @@ bounds-before-end c = end_within (goal.at.bounds-before-end c).After-end-end
 
 pub flip-requires : goal.flip-requires
 flip-requires c = record {
-      stop = le_of_lt (c.find.ensures.1.freed.stop c.end-end.result (end_below (goal.at.flip-requires c).After-end-end));
-      parented = omega (arith, c.find.auto.parents);
-      ranked = omega (arith, c.find.auto.ranks);
-      planned = omega (arith, long (goal.at.flip-requires c).Start, c.find.auto.plan);
-      chains = c.find.ensures.1.searched.nets.chains;
-    }
+  stop = le_of_lt (c.find.ensures.1.freed.stop c.end-end.result (end_below (goal.at.flip-requires c).After-end-end));
+  parented = omega (arith, c.find.auto.parents);
+  ranked = omega (arith, c.find.auto.ranks);
+  planned = omega (arith, long (goal.at.flip-requires c).Start, c.find.auto.plan);
+  chains = c.find.ensures.1.searched.nets.chains;
+}
 
 pub returns : goal.returns
 returns c = call_inserted c.find.ensures.0 c.find.ensures.1 (end_below (goal.at.returns c).After-end-end) c.end-end.ensures c.flip.ensures c.renew.ensures

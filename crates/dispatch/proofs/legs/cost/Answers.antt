@@ -1,5 +1,4 @@
 -- `dispatch::legs::cost` meets its contract: it reads the stop's column in the follower's row. Assumes nothing.
-use borrow.Author.Rules.{rules}
 use Rattle.dispatch.specs.Legs.{cell, leg_at}
 use Rattle.dispatch.proofs.legs.cost.Goals as goal
 

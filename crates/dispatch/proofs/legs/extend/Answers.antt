@@ -1,6 +1,5 @@
 -- `dispatch::legs::extend` meets its contract: the column of the call is filled, then the call is put at its place as a follower.
 -- Assumes nothing.
-use borrow.Author.Rules.{rules}
 use Rattle.dispatch.proofs.LegTable.{stop_added}
 use Rattle.dispatch.proofs.legs.Laws.{costed_kept}
 use Rattle.dispatch.proofs.legs.extend.Goals as goal

@@ -1,15 +1,6 @@
 -- `dispatch::legs::fill_column` meets its contract: each turn fills the metres to one place. Assumes nothing.
-use Prim.Native.Nat.{ℕ, ◌+◌, ◌-◌, ◌*◌, ◌<◌, ◌≤◌, zero-le}
-use mathlib.Core.List.{List}
-use mathlib.Core.Path.{◌≡◌, refl, ◌∙◌}
-use borrow.Author.Rules.{rules}
-use lib.ListN.{length, set, length-set}
 use native.Mathlib.Omega.{arith}
-use Rattle.base.proofs.Tests.{one_more}
-use Rattle.road.specs.Table.{most_places, metres_of, entry}
-use Rattle.dispatch.specs.Legs.{plan_room, cell, follower_row, Costed, ColumnFilled}
-use Rattle.dispatch.proofs.legs.Laws.{cell-written, cell_kept}
-use Rattle.dispatch.proofs.legs.fill_column.Invariants.{column_begun, column_turned, Filling}
+use Rattle.dispatch.proofs.legs.fill_column.Invariants.{column_begun, column_turned}
 use Rattle.dispatch.proofs.legs.fill_column.Goals as goal
 
 pub loop-x-init : goal.loop-x-init

@@ -1,12 +1,7 @@
 -- `dispatch::legs::fill_from` meets its contract: the loop fills the row from the front. Assumes nothing.
 use Prim.Native.Nat.{◌-◌}
-use mathlib.Core.List.{append-nil}
-use mathlib.Core.Path.{◌∙◌}
-use borrow.Author.Rules.{rules}
 use lib.ListN.{length, get_or}
-use lib.Seq.{drop-length}
-use native.Mathlib.Omega.{arith}
-use Rattle.base.proofs.Lists.{Filled, fill_begun, fill_turned, fill_ended}
+use Rattle.base.proofs.Lists.{Filled}
 use Rattle.road.specs.Table.{metres_of, entry}
 use Rattle.dispatch.proofs.legs.fill_from.Given as goal
 

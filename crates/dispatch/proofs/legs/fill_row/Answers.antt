@@ -1,6 +1,5 @@
 -- `dispatch::legs::fill_row` meets its contract: the row from the starts, then the row from the calls. Assumes nothing.
 use mathlib.Core.Path.{sym}
-use borrow.Author.Rules.{rules}
 use lib.ListN.{length}
 use lib.Seq.{length-take-le}
 use native.Mathlib.Nat.{le_refl}

@@ -1,17 +1,6 @@
 -- `dispatch::legs::fill_rows` meets its contract: each turn fills the row of one place. Assumes nothing.
-use Prim.Native.Nat.{ℕ, ◌+◌, ◌-◌, ◌*◌, ◌<◌, ◌≤◌, zero-le}
-use mathlib.Core.List.{List}
-use mathlib.Core.Path.{◌≡◌, refl, ◌∙◌}
-use borrow.Author.Rules.{rules}
-use lib.ListN.{length}
 use native.Mathlib.Omega.{arith}
-use Rattle.base.specs.Lists.{up_to}
-use Rattle.base.proofs.Tests.{one_more}
-use Rattle.road.specs.Table.{most_places, metres_of, entry}
-use Rattle.workfunction.specs.Plan.{stops, place}
-use Rattle.dispatch.specs.Legs.{plan_room, cell, follower_row, Costed, RowsFilled}
-use Rattle.dispatch.proofs.legs.Laws.{lent, row_put_back, length_row, row_new, row_kept}
-use Rattle.dispatch.proofs.legs.fill_rows.Invariants.{n, rows_begun, rows_turned, Filling}
+use Rattle.dispatch.proofs.legs.fill_rows.Invariants.{rows_begun, rows_turned}
 use Rattle.dispatch.proofs.legs.fill_rows.Goals as goal
 
 pub loop-x-init : goal.loop-x-init

@@ -1,14 +1,7 @@
 -- `dispatch::legs::put_all` meets its contract: each turn puts one follower at its place. Assumes nothing.
-use Prim.Native.Nat.{ℕ, ◌+◌, ◌-◌, ◌<◌, ◌≤◌, zero-le}
-use mathlib.Core.List.{List}
-use mathlib.Core.Path.{◌≡◌, refl, ◌∙◌}
-use borrow.Author.Rules.{rules}
-use lib.ListN.{length, get_or}
 use native.Mathlib.Nat.{le_antisymm}
 use native.Mathlib.Omega.{arith}
-use Rattle.base.proofs.Tests.{one_more}
-use Rattle.dispatch.specs.Legs.{follower_row, Costed, FollowerPut, FollowersPut}
-use Rattle.dispatch.proofs.legs.put_all.Invariants.{put_begun, put_turned, Putting}
+use Rattle.dispatch.proofs.legs.put_all.Invariants.{put_begun, put_turned}
 use Rattle.dispatch.proofs.legs.put_all.Goals as goal
 
 pub loop-i-init : goal.loop-i-init

@@ -1,7 +1,6 @@
 -- `dispatch::legs::row_of` meets its contract: it reads the follower's place in the last row. Assumes nothing.
 use Prim.Native.Nat.{◌+◌, ◌*◌}
 use mathlib.Core.Path.{refl}
-use borrow.Author.Rules.{rules}
 use native.Mathlib.Omega.{arith}
 use Rattle.road.specs.Table.{most_places}
 use Rattle.dispatch.specs.Legs.{plan_room, cell, follower_row}

@@ -11,6 +11,6 @@ use Rattle.dispatch.proofs.legs.zeros.Goals as goal
 pub returns : goal.returns
 unfolding cell follower_row
 returns c = record {
-      long = rw length-replicate (le_refl _);
-      rows = λ b h. rw (replicate-at {A = ℕ} (plan_room * (most_places + 1)) _ 0) (omega arith);
-    }
+  long = rw length-replicate (le_refl _);
+  rows = λ b h. rw (replicate-at {A = ℕ} (plan_room * (most_places + 1)) _ 0) (omega arith);
+}

@@ -1,9 +1,7 @@
 -- `dispatch::plan::copy` meets its contract: the loop fills the list from the front. Assumes nothing.
 use Prim.Native.Nat.{◌-◌}
-use mathlib.Core.Path.{refl}
-use borrow.Author.Rules.{rules}
 use lib.ListN.{replicate}
-use Rattle.base.proofs.Lists.{Filled, fill_begun, fill_turned, fill_padded}
+use Rattle.base.proofs.Lists.{Filled}
 use Rattle.book.specs.Book.{follower}
 use Rattle.dispatch.specs.Legs.{plan_room}
 use Rattle.dispatch.proofs.plan.copy.Given as goal

@@ -1,15 +1,12 @@
 -- `dispatch::plan::cost` meets its contract: the loop sums the legs from the stops below p, each of which is a u32.
 -- Assumes nothing.
-use Prim.Native.Nat.{ℕ, ◌+◌, ◌-◌, ◌*◌, ◌<◌, ◌≤◌, zero-le}
+use Prim.Native.Nat.{ℕ, ◌+◌, ◌<◌, ◌≤◌, zero-le}
 use mathlib.Core.Path.{◌≡◌, refl, subst}
-use borrow.Author.Rules.{rules}
 use native.Mathlib.Nat.{le_antisymm}
 use native.Mathlib.Omega.{arith}
 use Rattle.workfunction.specs.Lists.{sum_below}
 use Rattle.workfunction.specs.Plan.{plan_cost}
 use Rattle.workfunction.proofs.Sums.{sum_last}
-use Rattle.book.specs.Book.{follower}
-use Rattle.dispatch.specs.Legs.{leg_at}
 use Rattle.dispatch.proofs.plan.cost.Invariants.{Summed}
 use Rattle.dispatch.proofs.plan.cost.Goals as goal
 

@@ -1,13 +1,8 @@
 -- `dispatch::plan::cost` meets its contract: the loop sums the legs from the stops below p, each of which is a u32.
 -- Assumes nothing.
-use Prim.Native.Nat.{ℕ, ◌+◌, ◌-◌, ◌*◌, ◌<◌, ◌≤◌, zero-le}
-use mathlib.Core.Path.{◌≡◌, refl, subst}
-use borrow.Author.Rules.{rules}
-use native.Mathlib.Nat.{le_antisymm}
-use native.Mathlib.Omega.{arith}
+use Prim.Native.Nat.{ℕ, ◌-◌, ◌*◌, ◌≤◌}
+use mathlib.Core.Path.{◌≡◌}
 use Rattle.workfunction.specs.Lists.{sum_below}
-use Rattle.workfunction.specs.Plan.{plan_cost}
-use Rattle.workfunction.proofs.Sums.{sum_last}
 use Rattle.book.specs.Book.{follower}
 use Rattle.dispatch.specs.Legs.{leg_at}
 use Rattle.dispatch.proofs.plan.cost.Given as goal

@@ -1,10 +1,7 @@
 -- `dispatch::plan::replace` meets its contract: the loop fills the list from the front, and reads what it has not filled yet.
 -- Assumes nothing.
 use Prim.Native.Nat.{◌-◌}
-use mathlib.Core.Path.{ap, ◌∙◌}
-use borrow.Author.Rules.{rules}
-use native.Mathlib.Nat.{le_refl}
-use Rattle.base.proofs.Lists.{Filled, fill_begun, fill_turned, fill_ended, filled_ahead}
+use Rattle.base.proofs.Lists.{Filled}
 use Rattle.book.specs.Book.{follower}
 use Rattle.dispatch.specs.Insertion.{instead}
 use Rattle.dispatch.proofs.plan.replace.Given as goal

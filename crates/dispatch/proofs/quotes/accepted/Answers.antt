@@ -31,13 +31,12 @@ plan_long c = search rules
 -- the crane is one of the cranes
 sent : (c : After-choose-crane) → c.choose-crane.result < c.args.book.cranes
 sent c =
-    
     let called_here : Called c.args.book c.requires.0 c.args.table.now c.args.place = quote_called c.requires.1
     in
     subst (λ (x : ℕ). x < c.args.book.cranes) (sym c.choose-crane.ensures) (preferred_below _ c.args.book.cranes (called_here).sound.counts.crane)
 
 sent_low : (c : After-choose-crane) → c.choose-crane.result < most_cranes
-sent_low c = 
+sent_low c =
     let called_here : Called c.args.book c.requires.0 c.args.table.now c.args.place = quote_called c.requires.1
     in
     omega (arith, sent c, (called_here).sound.counts.cranes)
@@ -46,7 +45,6 @@ sent_low c =
 summed : (c : After-cost) → let sum = plan_cost (stops_of c.args.book) (leg_at c.of_book.new.costs) (follower c.args.book.plan) + at c.of_book.new.nets c.choose-crane.result in
     (net_base ≤ sum) × (sum ≤ net_base + (most_stops + 1) * most_metres)
 summed c =
-    
     let called_here : Called c.args.book c.requires.0 c.args.table.now c.args.place = quote_called c.requires.1
     in
     let arrays_here : BookArrays c.args.book = record { starts = search rules; stands = search rules; requests = search rules; driven = search rules }
@@ -83,9 +81,9 @@ cost-least-requires c = let k = (called (goal.at.cost-least-requires c).Start).s
 
 pub cost-requires : goal.cost-requires
 cost-requires c = (
-      omega (arith, (called (goal.at.cost-requires c).Start).sound.counts.cranes, (called (goal.at.cost-requires c).Start).space),
-      (omega (arith, sent_low (goal.at.cost-requires c).After-choose-crane), (c.of_book.ensures _ c.requires.1).costed),
-    )
+  omega (arith, (called (goal.at.cost-requires c).Start).sound.counts.cranes, (called (goal.at.cost-requires c).Start).space),
+  (omega (arith, sent_low (goal.at.cost-requires c).After-choose-crane), (c.of_book.ensures _ c.requires.1).costed),
+)
 
 pub offset_bounds-nets-crane : goal.offset_bounds-nets-crane
 offset_bounds-nets-crane c = omega (arith, sent_low (goal.at.offset_bounds-nets-crane c).After-choose-crane)

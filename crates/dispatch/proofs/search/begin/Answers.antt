@@ -1,15 +1,13 @@
 -- `dispatch::search::begin` meets its contract: the loop fills the lists from the front, and then the new call is settled.
 -- Assumes nothing.
-use Prim.Native.Nat.{ℕ, ◌+◌, ◌-◌, ◌<◌}
+use Prim.Native.Nat.{ℕ, ◌<◌}
 use mathlib.Core.List.{List}
 use mathlib.Core.Path.{refl, ◌∙◌}
-use borrow.Author.Rules.{rules}
 use lib.ListN.{length, set}
 use lib.Seq.{get_or-set_same, get_or-set_other}
 use native.Mathlib.Omega.{arith}
-use Rattle.base.proofs.Lists.{Filled, fill_begun, fill_turned, filled_at}
-use Rattle.dispatch.specs.Legs.{plan_room, leg_at}
-use Rattle.dispatch.specs.Search.{at, net_base, Begun}
+use Rattle.base.proofs.Lists.{fill_begun, fill_turned, filled_at}
+use Rattle.dispatch.specs.Search.{at, Begun}
 use Rattle.dispatch.proofs.search.begin.Invariants.{Beginning}
 use Rattle.dispatch.proofs.search.begin.Goals as goal
 
@@ -28,10 +26,10 @@ loop-p-init c = record { totalled = fill_begun _ _ _; parented = fill_begun _ _ 
 
 pub loop-p-preserved : goal.loop-p-preserved
 loop-p-preserved c = record {
-      totalled = fill_turned _ _ _ _ _ _ (omega arith) c.loop-p.invariant.totalled (omega arith) (rw c.cost.ensures);
-      parented = fill_turned _ _ _ _ _ _ (omega arith) c.loop-p.invariant.parented (omega arith) refl;
-      ranked = fill_turned _ _ _ _ _ _ (omega arith) c.loop-p.invariant.ranked (omega arith) refl;
-    }
+  totalled = fill_turned _ _ _ _ _ _ (omega arith) c.loop-p.invariant.totalled (omega arith) (rw c.cost.ensures);
+  parented = fill_turned _ _ _ _ _ _ (omega arith) c.loop-p.invariant.parented (omega arith) refl;
+  ranked = fill_turned _ _ _ _ _ _ (omega arith) c.loop-p.invariant.ranked (omega arith) refl;
+}
 
 pub returns : goal.returns
 returns c = begun_by c.loop-p.invariant (omega arith) (omega arith)

@@ -1,15 +1,10 @@
 -- `dispatch::search::begin` meets its contract: the loop fills the lists from the front, and then the new call is settled.
 -- Assumes nothing.
-use Prim.Native.Nat.{ℕ, ◌+◌, ◌-◌, ◌<◌}
+use Prim.Native.Nat.{ℕ, ◌+◌, ◌-◌}
 use mathlib.Core.List.{List}
-use mathlib.Core.Path.{refl, ◌∙◌}
-use borrow.Author.Rules.{rules}
-use lib.ListN.{length, set}
-use lib.Seq.{get_or-set_same, get_or-set_other}
-use native.Mathlib.Omega.{arith}
-use Rattle.base.proofs.Lists.{Filled, fill_begun, fill_turned, filled_at}
+use Rattle.base.proofs.Lists.{Filled}
 use Rattle.dispatch.specs.Legs.{plan_room, leg_at}
-use Rattle.dispatch.specs.Search.{at, net_base, Begun}
+use Rattle.dispatch.specs.Search.{net_base}
 use Rattle.dispatch.proofs.search.begin.Given as goal
 
 -- the first entries are filled

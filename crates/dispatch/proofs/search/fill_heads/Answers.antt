@@ -1,16 +1,10 @@
 -- `dispatch::search::fill_heads` meets its contract: the loop fills the heads from the front. Assumes nothing.
-use Prim.Native.Nat.{ℕ, ◌-◌, ◌<◌}
-use mathlib.Core.List.{List}
+use Prim.Native.Nat.{◌<◌}
 use mathlib.Core.Path.{◌∙◌}
-use borrow.Author.Rules.{rules}
-use lib.IntN.{ℤ}
 use native.Mathlib.Omega.{arith}
-use Rattle.base.proofs.Lists.{Filled, fill_begun, fill_turned, filled_at}
-use Rattle.book.specs.Book.{follower, weight}
-use Rattle.dispatch.specs.Legs.{leg_at}
-use Rattle.dispatch.specs.Search.{head_of}
+use Rattle.base.proofs.Lists.{fill_begun, fill_turned, filled_at}
+use Rattle.book.specs.Book.{follower}
 use Rattle.book.proofs.Vouching.{read_back}
-use Rattle.dispatch.proofs.search.fill_heads.Invariants.{rule}
 use Rattle.dispatch.proofs.search.fill_heads.Goals as goal
 use Rattle.dispatch.proofs.search.fill_heads.Goals.{In-loop-p}
 
@@ -35,9 +29,9 @@ cost-requires c = (omega (arith, c.requires.weighed.followed), (omega (arith, ke
 
 pub head-requires : goal.head-requires
 head-requires c = (
-      rw (read_back _ c.head-arg-1.given) (c.requires.weighed.ranged _ (kept_below (goal.at.head-requires c).In-loop-p)),
-      rw c.cost.ensures (c.requires.short _ _ c.loop-p-test.true (kept_below (goal.at.head-requires c).In-loop-p)),
-    )
+  rw (read_back _ c.head-arg-1.given) (c.requires.weighed.ranged _ (kept_below (goal.at.head-requires c).In-loop-p)),
+  rw c.cost.ensures (c.requires.short _ _ c.loop-p-test.true (kept_below (goal.at.head-requires c).In-loop-p)),
+)
 
 pub loop-p-preserved : goal.loop-p-preserved
 loop-p-preserved c = fill_turned _ _ _ _ _ _ (omega arith) c.loop-p.invariant c.loop-p-test.true

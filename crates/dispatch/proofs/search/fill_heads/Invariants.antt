@@ -1,15 +1,11 @@
 -- `dispatch::search::fill_heads` meets its contract: the loop fills the heads from the front. Assumes nothing.
-use Prim.Native.Nat.{ℕ, ◌-◌, ◌<◌}
+use Prim.Native.Nat.{ℕ, ◌-◌}
 use mathlib.Core.List.{List}
-use mathlib.Core.Path.{◌∙◌}
-use borrow.Author.Rules.{rules}
 use lib.IntN.{ℤ}
-use native.Mathlib.Omega.{arith}
-use Rattle.base.proofs.Lists.{Filled, fill_begun, fill_turned, filled_at}
+use Rattle.base.proofs.Lists.{Filled}
 use Rattle.book.specs.Book.{follower, weight}
 use Rattle.dispatch.specs.Legs.{leg_at}
 use Rattle.dispatch.specs.Search.{head_of}
-use Rattle.book.proofs.Vouching.{read_back}
 use Rattle.dispatch.proofs.search.fill_heads.Given as goal
 
 -- the head of each stop

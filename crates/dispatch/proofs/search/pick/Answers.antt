@@ -1,14 +1,7 @@
 -- `dispatch::search::pick` meets its contract: the loop keeps the least key of the stops before i, and where it stands.
 -- Assumes nothing.
-use Prim.Native.Nat.{ℕ, ◌+◌, ◌-◌, ◌<◌, ◌≤◌}
-use mathlib.Core.Logic.{◌⊎◌, inl, inr, ⊎_elim}
-use mathlib.Core.Path.{◌≡◌, refl}
-use borrow.Author.Rules.{rules}
-use lib.ListN.{length}
-use native.Mathlib.Decide.{ℕ_discrete}
 use native.Mathlib.Omega.{arith}
-use Rattle.dispatch.specs.Search.{at, Nearest}
-use Rattle.dispatch.proofs.search.pick.Invariants.{key, Picking, pick_begun, pick_kept, pick_taken, pick_ended}
+use Rattle.dispatch.proofs.search.pick.Invariants.{pick_begun, pick_kept, pick_taken, pick_ended}
 use Rattle.dispatch.proofs.search.pick.Goals as goal
 use Rattle.dispatch.proofs.search.pick.Goals.{else-key-least, then-key-least}
 

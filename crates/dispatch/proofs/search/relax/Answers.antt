@@ -1,16 +1,6 @@
 -- `dispatch::search::relax` meets its contract: the loop has done its work on the stops below p. Assumes nothing.
-use Prim.Native.Nat.{ℕ, ◌+◌, ◌-◌, ◌<◌, ◌≤◌}
-use mathlib.Core.List.{List}
-use mathlib.Core.Logic.{◌⊎◌, inl, inr, ⊎_elim}
-use mathlib.Core.Path.{◌≡◌, refl, ◌∙◌}
-use borrow.Author.Rules.{rules}
-use lib.ListN.{length, set, length-set}
-use lib.Seq.{get_or-set_same, get_or-set_other}
-use native.Mathlib.Decide.{ℕ_discrete}
-use native.Mathlib.Nat.{le_antisymm}
 use native.Mathlib.Omega.{arith}
-use Rattle.dispatch.specs.Search.{at, Unbettered, Bettered, Relaxed}
-use Rattle.dispatch.proofs.search.relax.Invariants.{Relaxing, relax_begun, relax_ended, Way, untouched, relax_kept, relax_taken}
+use Rattle.dispatch.proofs.search.relax.Invariants.{relax_begun, relax_ended, relax_kept, relax_taken}
 use Rattle.dispatch.proofs.search.relax.Goals as goal
 use Rattle.dispatch.proofs.search.relax.Goals.{else-total-totals, then-total-totals}
 

@@ -7,11 +7,8 @@ use borrow.Author.Rules.{rules}
 use lib.ListN.{length, set, take}
 use lib.Seq.{length-take-le, get_or-take, get_or-set_same, get_or-set_other}
 use native.Mathlib.Omega.{arith}
-use Rattle.book.specs.Book.{follower}
-use Rattle.dispatch.specs.Legs.{leg_at}
 use Rattle.dispatch.specs.Search.{at, Keyed, Nearest}
-use Rattle.dispatch.proofs.search.Laws.{Stored, Least, Listed, Settling, listed_begun, listed_least, listed_turned, search_begun, search_turned, search_ended, leg-within, keys_low}
-use Rattle.dispatch.proofs.search.rounds.Invariants.{Rounding}
+use Rattle.dispatch.proofs.search.Laws.{Stored, Least, listed_begun, listed_least, listed_turned, search_begun, search_turned, search_ended, leg-within, keys_low}
 use Rattle.dispatch.proofs.search.rounds.Goals as goal
 use Rattle.dispatch.proofs.search.rounds.Goals.{After-pick-i}
 
@@ -55,14 +52,14 @@ picked c = listed_least c.loop-rank.invariant.listed (near c)
 
 pub loop-rank-init : goal.loop-rank-init
 loop-rank-init c = record {
-      stopped = refl;
-      totalled = refl;
-      parented = refl;
-      ranked = refl;
-      started = omega arith;
-      listed = listed_begun (omega arith) c.requires.opened c.requires.begun.unsettled;
-      settling = search_begun c.requires.ready c.requires.begun;
-    }
+  stopped = refl;
+  totalled = refl;
+  parented = refl;
+  ranked = refl;
+  started = omega arith;
+  listed = listed_begun (omega arith) c.requires.opened c.requires.begun.unsettled;
+  settling = search_begun c.requires.ready c.requires.begun;
+}
 
 pub slice_bounds-pick-end : goal.slice_bounds-pick-end
 slice_bounds-pick-end c = omega arith

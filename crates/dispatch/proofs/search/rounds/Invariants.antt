@@ -1,16 +1,13 @@
 -- `dispatch::search::rounds` meets its contract: each round settles an open stop of least key, which keeps the invariant.
 -- Assumes nothing.
-use Prim.Native.Nat.{ℕ, ◌+◌, ◌-◌, ◌<◌, ◌≤◌}
+use Prim.Native.Nat.{ℕ, ◌+◌, ◌-◌, ◌≤◌}
 use mathlib.Core.List.{List}
-use mathlib.Core.Path.{◌≡◌, refl, sym}
-use borrow.Author.Rules.{rules}
-use lib.ListN.{length, set, take}
-use lib.Seq.{length-take-le, get_or-take, get_or-set_same, get_or-set_other}
-use native.Mathlib.Omega.{arith}
+use mathlib.Core.Path.{◌≡◌}
+use lib.ListN.{length}
 use Rattle.book.specs.Book.{follower}
 use Rattle.dispatch.specs.Legs.{leg_at}
-use Rattle.dispatch.specs.Search.{at, Keyed, Nearest}
-use Rattle.dispatch.proofs.search.Laws.{Stored, Least, Listed, Settling, listed_begun, listed_least, listed_turned, search_begun, search_turned, search_ended, leg-within, keys_low}
+use Rattle.dispatch.specs.Search.{at}
+use Rattle.dispatch.proofs.search.Laws.{Listed, Settling}
 use Rattle.dispatch.proofs.search.rounds.Given as goal
 
 -- the invariant, of lists that keep their lengths

@@ -51,13 +51,13 @@ fill_heads-requires c = record { headed = le_of_lt c.requires.witnessed.few; wei
 
 pub rounds-requires : goal.rounds-requires
 rounds-requires c = record {
-      headed = search rules;
-      listed = search rules;
-      opened = λ p lt. rw c.own-stops.ensures (get_or-padded plan_room c.args.new (λ i. i) 0 0 p lt);
-      sized = record { planned = c.requires.sized.planned; costed = c.requires.sized.costed; totalled = search rules; parented = search rules; ranked = omega (arith, c.begin) };
-      ready = heads_ready c.requires.witnessed c.requires.self c.fill_heads.new.heads c.fill_heads.ensures;
-      begun = c.begin.ensures;
-    }
+  headed = search rules;
+  listed = search rules;
+  opened = λ p lt. rw c.own-stops.ensures (get_or-padded plan_room c.args.new (λ i. i) 0 0 p lt);
+  sized = record { planned = c.requires.sized.planned; costed = c.requires.sized.costed; totalled = search rules; parented = search rules; ranked = omega (arith, c.begin) };
+  ready = heads_ready c.requires.witnessed c.requires.self c.fill_heads.new.heads c.fill_heads.ensures;
+  begun = c.begin.ensures;
+}
 
 pub returns : goal.returns
 returns c = c.rounds.ensures

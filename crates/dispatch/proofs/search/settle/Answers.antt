@@ -4,7 +4,6 @@ use Prim.Native.Nat.{ℕ, ◌<◌}
 use mathlib.Core.List.{List}
 use mathlib.Core.Logic.{◌⊎◌, inl, inr}
 use mathlib.Core.Path.{◌≡◌, ap}
-use borrow.Author.Rules.{rules}
 use lib.ListN.{length}
 use native.Mathlib.Nat.{le_of_lt}
 use native.Mathlib.Omega.{arith}
@@ -39,9 +38,9 @@ row_worked {row} costs b l same e f r =
 
 pub row_to-row-requires : goal.row_to-row-requires
 row_to-row-requires c = (
-      omega (arith, c.limit.ensures, reach_most c.args.cranes c.args.new _ (le_of_lt c.requires.follows), c.requires.few),
-      (omega (arith, c.requires.follows, c.requires.few), c.requires.costed),
-    )
+  omega (arith, c.limit.ensures, reach_most c.args.cranes c.args.new _ (le_of_lt c.requires.follows), c.requires.few),
+  (omega (arith, c.requires.follows, c.requires.few), c.requires.costed),
+)
 
 pub relax-requires : goal.relax-requires
 relax-requires c = let long = simp length-up_to at (ap length c.row_to-row.ensures) in

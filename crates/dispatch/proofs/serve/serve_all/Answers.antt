@@ -1,18 +1,14 @@
 -- `dispatch::serve::serve_all` meets its contract: after each turn the calls so far are served, and the rest of the day is ahead.
 -- Assumes nothing.
-use Prim.Native.Nat.{ℕ, ◌-◌, ◌*◌, ◌<◌, ◌≤◌}
-use mathlib.Core.List.{List, []}
-use mathlib.Core.Path.{◌≡◌, refl, sym}
+use Prim.Native.Nat.{◌<◌}
+use mathlib.Core.Path.{refl, sym}
 use borrow.Author.Rules.{rules}
-use lib.IntN.{ℤ}
-use lib.ListN.{length, get_or, take}
+use lib.ListN.{get_or, take}
 use lib.Seq.{length-take-le}
 use native.Mathlib.Omega.{arith}
-use Rattle.road.specs.Table.{metres_of, entry}
 use Rattle.dayfile.specs.Day.{most_calls}
-use Rattle.dispatch.specs.Insertion.{Roads, Kept}
-use Rattle.dispatch.proofs.DayServed.{Running, run_begun, run_turned, run_ended, crane_few}
-use Rattle.dispatch.proofs.serve.serve_all.Invariants.{Going}
+use Rattle.dispatch.specs.Insertion.{Kept}
+use Rattle.dispatch.proofs.DayServed.{run_begun, run_turned, run_ended, crane_few}
 use Rattle.dispatch.proofs.serve.serve_all.Goals as goal
 use Rattle.dispatch.proofs.serve.serve_all.Goals.{At-loop-i, In-loop-i}
 
@@ -30,31 +26,31 @@ kept c = (c.loop-i.invariant.running _ _ c.requires.roads c.requires.kept c.requ
 
 pub loop-i-init : goal.loop-i-init
 loop-i-init c = record {
-      most = search rules;
-      stood = refl;
-      planned = refl;
-      weighed = refl;
-      costed = refl;
-      sent = refl;
-      drives = refl;
-      works = refl;
-      low = search rules;
-      running = λ n d ways begun called. run_begun _ _ _ _ _ _ _ _ begun;
-    }
+  most = search rules;
+  stood = refl;
+  planned = refl;
+  weighed = refl;
+  costed = refl;
+  sent = refl;
+  drives = refl;
+  works = refl;
+  low = search rules;
+  running = λ n d ways begun called. run_begun _ _ _ _ _ _ _ _ begun;
+}
 
 pub slice_bounds-serve_call-end : goal.slice_bounds-serve_call-end
 slice_bounds-serve_call-end c = sym (length-take-le _ _ c.loop-i.invariant.most)
 
 pub serve_call-step-requires : goal.serve_call-step-requires
 serve_call-step-requires c = record {
-      places = _;
-      metres = _;
-      roads = c.requires.roads;
-      kept = kept (goal.at.serve_call-step-requires c).At-loop-i;
-      on = asked (goal.at.serve_call-step-requires c).In-loop-i;
-      space = rw (length-take-le _ _ c.loop-i.invariant.most) (few (goal.at.serve_call-step-requires c).In-loop-i);
-      ends = λ e h. h;
-    }
+  places = _;
+  metres = _;
+  roads = c.requires.roads;
+  kept = kept (goal.at.serve_call-step-requires c).At-loop-i;
+  on = asked (goal.at.serve_call-step-requires c).In-loop-i;
+  space = rw (length-take-le _ _ c.loop-i.invariant.most) (few (goal.at.serve_call-step-requires c).In-loop-i);
+  ends = λ e h. h;
+}
 
 pub overflow_cast-cranes : goal.overflow_cast-cranes
 overflow_cast-cranes c = let day = kept (goal.at.overflow_cast-cranes c).At-loop-i in
@@ -80,20 +76,20 @@ overflow_add-i c = omega (arith, few (goal.at.overflow_add-i c).In-loop-i)
 
 pub loop-i-preserved : goal.loop-i-preserved
 loop-i-preserved c = record {
-      most = search rules;
-      stood = search rules;
-      planned = search rules;
-      weighed = search rules;
-      costed = search rules;
-      sent = search rules;
-      drives = search rules;
-      works = search rules;
-      low = omega (arith, c.loop-i.invariant.low);
-      running = λ n d ways begun called.
-          let run = c.loop-i.invariant.running n d ways begun called in
-          run_turned _ _ _ _ _ _ _ _ run c.loop-i-test.true c.requires.sent c.requires.driven c.requires.costed
-          (c.serve_call-step.ensures.answered n d ways run.kept (called c.loop-i.i c.loop-i-test.true));
-    }
+  most = search rules;
+  stood = search rules;
+  planned = search rules;
+  weighed = search rules;
+  costed = search rules;
+  sent = search rules;
+  drives = search rules;
+  works = search rules;
+  low = omega (arith, c.loop-i.invariant.low);
+  running = λ n d ways begun called.
+      let run = c.loop-i.invariant.running n d ways begun called in
+      run_turned _ _ _ _ _ _ _ _ run c.loop-i-test.true c.requires.sent c.requires.driven c.requires.costed
+      (c.serve_call-step.ensures.answered n d ways run.kept (called c.loop-i.i c.loop-i-test.true));
+}
 
 pub returns : goal.returns
 returns c = λ n d ways begun called. run_ended _ _ _ _ _ _ _ _ (c.loop-i.invariant.running n d ways begun called) c.loop-i-test.false

@@ -2,16 +2,12 @@
 -- Assumes nothing.
 use Prim.Native.Nat.{ℕ, ◌-◌, ◌*◌, ◌<◌, ◌≤◌}
 use mathlib.Core.List.{List, []}
-use mathlib.Core.Path.{◌≡◌, refl, sym}
-use borrow.Author.Rules.{rules}
+use mathlib.Core.Path.{◌≡◌}
 use lib.IntN.{ℤ}
-use lib.ListN.{length, get_or, take}
-use lib.Seq.{length-take-le}
-use native.Mathlib.Omega.{arith}
+use lib.ListN.{length, get_or}
 use Rattle.road.specs.Table.{metres_of, entry}
-use Rattle.dayfile.specs.Day.{most_calls}
 use Rattle.dispatch.specs.Insertion.{Roads, Kept}
-use Rattle.dispatch.proofs.DayServed.{Running, run_begun, run_turned, run_ended, crane_few}
+use Rattle.dispatch.proofs.DayServed.{Running}
 use Rattle.dispatch.proofs.serve.serve_all.Given as goal
 
 -- the invariant, of lists that keep their lengths: a day under way if it was at first

@@ -94,11 +94,11 @@ cost-requires c = let few = room (goal.at.cost-requires c).Start in
 
 pub returns : goal.returns
 returns c = record {
-      answered = λ n d roads kept asked.
-          call_answered roads kept (room (goal.at.returns c).Start) (long (goal.at.returns c).Start) asked c.extend.ensures
-          c.insert-crane.new.plan c.insert-crane.new.weights c.put.new.costs
-          c.insert-crane.ensures.taken c.put.ensures
-          (omega (arith, c.insert-crane.auto, c.requires.kept.plan_long)) (omega (arith, c.insert-crane.auto, c.requires.kept.weights_long))
-          c.requires.space c.insert-crane.ensures.chosen c.metres-metres.ensures c.cost.ensures;
-      unmoved = unmoved_set c.insert-crane.result (omega (arith, sent (goal.at.returns c).After-insert-crane)) c.insert-crane.ensures.unmoved;
-    }
+  answered = λ n d roads kept asked.
+      call_answered roads kept (room (goal.at.returns c).Start) (long (goal.at.returns c).Start) asked c.extend.ensures
+      c.insert-crane.new.plan c.insert-crane.new.weights c.put.new.costs
+      c.insert-crane.ensures.taken c.put.ensures
+      (omega (arith, c.insert-crane.auto, c.requires.kept.plan_long)) (omega (arith, c.insert-crane.auto, c.requires.kept.weights_long))
+      c.requires.space c.insert-crane.ensures.chosen c.metres-metres.ensures c.cost.ensures;
+  unmoved = unmoved_set c.insert-crane.result (omega (arith, sent (goal.at.returns c).After-insert-crane)) c.insert-crane.ensures.unmoved;
+}

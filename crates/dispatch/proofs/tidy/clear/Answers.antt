@@ -1,8 +1,6 @@
 -- `dispatch::tidy::clear` meets its contract: the loop clears the entries from an index on. Assumes nothing.
-use Prim.Native.Nat.{◌-◌}
 use borrow.Author.Rules.{rules}
-use lib.ListN.{length}
-use Rattle.dispatch.proofs.tidy.Laws.{Clearing, clear_begun, clear_turned, clear_ended}
+use Rattle.dispatch.proofs.tidy.Laws.{clear_begun, clear_turned, clear_ended}
 use Rattle.dispatch.proofs.tidy.clear.Goals as goal
 
 pub loop-i-init : goal.loop-i-init

@@ -1,8 +1,7 @@
 -- `dispatch::tidy::clear` meets its contract: the loop clears the entries from an index on. Assumes nothing.
 use Prim.Native.Nat.{◌-◌}
-use borrow.Author.Rules.{rules}
 use lib.ListN.{length}
-use Rattle.dispatch.proofs.tidy.Laws.{Clearing, clear_begun, clear_turned, clear_ended}
+use Rattle.dispatch.proofs.tidy.Laws.{Clearing}
 use Rattle.dispatch.proofs.tidy.clear.Given as goal
 
 abbrev pub invariant-loop-i : goal.invariant-loop-i

@@ -1,8 +1,6 @@
 -- `dispatch::tidy::clear_driven` meets its contract: the loop clears the entries from an index on. Assumes nothing.
-use Prim.Native.Nat.{◌-◌}
 use borrow.Author.Rules.{rules}
-use lib.ListN.{length}
-use Rattle.dispatch.proofs.tidy.Laws.{Clearing, clear_begun, clear_turned, clear_ended}
+use Rattle.dispatch.proofs.tidy.Laws.{clear_begun, clear_turned, clear_ended}
 use Rattle.dispatch.proofs.tidy.clear_driven.Goals as goal
 
 pub loop-j-init : goal.loop-j-init

@@ -1,11 +1,9 @@
 -- `dispatch::weights::copy` meets its contract: the loop fills the list from the front. Assumes nothing.
 use Prim.Native.Nat.{◌-◌}
-use borrow.Author.Rules.{rules}
 use lib.IntN.{pos}
 use lib.ListN.{replicate}
-use Rattle.base.proofs.Lists.{Filled, fill_begun, fill_turned, fill_padded}
+use Rattle.base.proofs.Lists.{Filled}
 use Rattle.book.specs.Book.{weight}
-use Rattle.book.proofs.Vouching.{read_back}
 use Rattle.dispatch.specs.Legs.{plan_room}
 use Rattle.dispatch.proofs.weights.copy.Given as goal
 

@@ -3,20 +3,14 @@
 use Prim.Native.Nat.{ℕ, ◌+◌, ◌-◌, ◌<◌, ◌≤◌}
 use mathlib.Core.List.{List}
 use mathlib.Core.Path.{◌≡◌, refl, ◌∙◌}
-use borrow.Author.Rules.{rules}
-use lib.IntN.{ℤ, pos, neg_ℤ, ◌-ℤ◌, +ℤ_idl}
+use lib.IntN.{ℤ, pos, neg_ℤ, ◌-ℤ◌}
 use lib.ListN.{length, set, length-set}
 use lib.Seq.{get_or-set_same, get_or-set_other}
-use mir.Syntax.{w64}
-use mir.Val.{SFits, to_z, of_z}
-use mir.ValLaws.{to_z-of_z}
 use native.Mathlib.Omega.{arith}
-use Rattle.base.proofs.Signed.{neg_difference, difference_fits}
 use Rattle.base.proofs.Tests.{one_more}
-use Rattle.road.specs.Table.{most_metres}
 use Rattle.book.specs.Book.{follower, weight}
 use Rattle.dispatch.specs.Legs.{leg_at}
-use Rattle.dispatch.specs.Search.{at, net_base, net_of, Totalled, Matched, Reweighed}
+use Rattle.dispatch.specs.Search.{at, net_base, net_of, Matched, Reweighed}
 use Rattle.dispatch.proofs.weights.renew.Given as goal
 
 module _ (new : ℕ) (f net : ℕ → ℕ) (weights₀ : List ℤ) where

@@ -1,11 +1,10 @@
 -- `near::mask::of_places` meets its contract: each turn sets the bit of one more place.
 -- Assumes nothing.
-use Prim.Native.Nat.{◌-◌, ◌<◌}
-use lib.ListN.{length, get_or}
+use Prim.Native.Nat.{◌<◌}
+use lib.ListN.{get_or}
 use native.Mathlib.Omega.{arith}
-use borrow.Author.Rules.{rules}
 use Rattle.road.specs.Table.{most_places}
-use Rattle.near.proofs.mask.Laws.{Masked, mask_begun, mask_turned, mask_ended}
+use Rattle.near.proofs.mask.Laws.{mask_begun, mask_turned, mask_ended}
 use Rattle.near.proofs.mask.of_places.Goals as goal
 use Rattle.near.proofs.mask.of_places.Goals.{After-shared_slice_known-1}
 

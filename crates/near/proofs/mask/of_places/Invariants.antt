@@ -1,11 +1,8 @@
 -- `near::mask::of_places` meets its contract: each turn sets the bit of one more place.
 -- Assumes nothing.
-use Prim.Native.Nat.{◌-◌, ◌<◌}
-use lib.ListN.{length, get_or}
-use native.Mathlib.Omega.{arith}
-use borrow.Author.Rules.{rules}
-use Rattle.road.specs.Table.{most_places}
-use Rattle.near.proofs.mask.Laws.{Masked, mask_begun, mask_turned, mask_ended}
+use Prim.Native.Nat.{◌-◌}
+use lib.ListN.{length}
+use Rattle.near.proofs.mask.Laws.{Masked}
 use Rattle.near.proofs.mask.of_places.Given as goal
 
 abbrev pub invariant-loop-i : goal.invariant-loop-i

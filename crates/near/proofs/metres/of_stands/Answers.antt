@@ -1,15 +1,11 @@
 -- `near::metres::of_stands` meets its contract: the loop looks up the metres of one crane after another.
 -- Assumes nothing.
-use Prim.Native.Nat.{◌-◌}
 use mathlib.Core.Path.{◌∙◌}
-use lib.ListN.{length, replicate}
 use native.Mathlib.Omega.{arith}
-use Rattle.base.proofs.Lists.{Filled, fill_begun, fill_turned, fill_padded}
-use Rattle.road.specs.Table.{metres_of}
+use Rattle.base.proofs.Lists.{fill_begun, fill_turned, fill_padded}
 use Rattle.road.proofs.Table.{entry_in}
 use Rattle.dayfile.specs.Day.{most_cranes}
 use Rattle.workfunction.specs.Choice.{drive}
-use borrow.Author.Rules.{rules}
 use Rattle.near.proofs.metres.of_stands.Goals as goal
 
 pub loop-s-init : goal.loop-s-init

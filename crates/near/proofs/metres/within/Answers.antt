@@ -1,13 +1,9 @@
 -- `near::metres::within` meets its contract: the loop counts the metres that are at most the distance.
 -- Assumes nothing.
-use Prim.Native.Nat.{◌-◌}
-use mathlib.Core.Logic.{⊎_elim}
 use borrow.Author.Tests.{le-leb, lt-leb}
-use lib.Dec.{leb}
-use lib.ListN.{length, get_or}
+use lib.ListN.{get_or}
 use native.Mathlib.Omega.{arith}
-use borrow.Author.Rules.{rules}
-use Rattle.workfunction.proofs.Counted.{Counted, count_begun, one_more, no_more, count_ended}
+use Rattle.workfunction.proofs.Counted.{count_begun, one_more, no_more, count_ended}
 use Rattle.near.specs.Count.{count}
 use Rattle.near.proofs.metres.within.Goals as goal
 use Rattle.near.proofs.metres.within.Goals.{else-metres-s, then-metres-s}

@@ -1,7 +1,6 @@
 -- `near::place::test` meets its contract: a refusal of the book is handed up, else the place is tested.
 -- Assumes nothing.
 use Rattle.base.proofs.Numbers.{goes_on, handed_up}
-use borrow.Author.Rules.{rules}
 use Rattle.near.proofs.place.test.Goals as goal
 
 pub returns-in_default : goal.returns-in_default

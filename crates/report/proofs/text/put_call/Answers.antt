@@ -1,7 +1,6 @@
 -- `report::text::put_call` meets its contract: the four fields are written one behind another, then the line feed.
 -- Assumes nothing.
 use Prim.Native.Nat.{◌≤◌}
-use borrow.Author.Rules.{rules}
 use lib.ListN.{length}
 use native.Mathlib.Omega.{arith}
 use Rattle.base.specs.Decimal.{decimal}

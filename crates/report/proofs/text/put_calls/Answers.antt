@@ -1,13 +1,10 @@
 -- `report::text::put_calls` meets its contract: the lines are written one behind another.
 -- Assumes nothing.
-use Prim.Native.Nat.{◌-◌, ◌≤◌, zero-le}
-use mathlib.Core.Path.{◌≡◌, refl}
+use Prim.Native.Nat.{zero-le}
+use mathlib.Core.Path.{refl}
 use borrow.Author.Rules.{rules}
-use lib.ListN.{length, get_or}
 use native.Mathlib.Nat.{le_antisymm}
 use native.Mathlib.Omega.{arith}
-use Rattle.report.specs.Text.{call_lines}
-use Rattle.report.specs.Put.{Put}
 use Rattle.report.proofs.text.Laws.{calls_most, no_calls_put, call_put}
 use Rattle.report.proofs.text.put_calls.Goals as goal
 

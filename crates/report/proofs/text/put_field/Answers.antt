@@ -1,6 +1,5 @@
 -- `report::text::put_field` meets its contract: the number is written behind the word.
 -- Assumes nothing.
-use borrow.Author.Rules.{rules}
 use native.Mathlib.Omega.{arith}
 use Rattle.base.proofs.Decimal.{length-decimal}
 use Rattle.report.proofs.text.Laws.{put_on}

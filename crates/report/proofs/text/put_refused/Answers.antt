@@ -1,7 +1,6 @@
 -- `report::text::put_refused` meets its contract: the two fields are written one behind the other, then the line feed.
 -- Assumes nothing.
 use Prim.Native.Nat.{◌≤◌}
-use borrow.Author.Rules.{rules}
 use lib.ListN.{length}
 use native.Mathlib.Omega.{arith}
 use Rattle.base.specs.Decimal.{decimal}

@@ -1,6 +1,5 @@
 -- `road::Road::test_triangles` meets its contract: 3 is handed up, and where it does not apply the rest decides.
 -- Assumes nothing.
-use borrow.Author.Rules.{rules}
 use Rattle.base.proofs.Numbers.{goes_on, handed_up}
 use Rattle.road.proofs.Table.{run_held}
 use Rattle.road.proofs.Road.test_triangles.Goals as goal

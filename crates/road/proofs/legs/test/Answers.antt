@@ -1,12 +1,8 @@
 -- `road::legs::test` meets its contract: the loop passes the legs whose metres are within the limit.
 -- Assumes nothing.
-use Prim.Native.Nat.{ℕ, ◌-◌}
-use mathlib.Core.Bool.{Bool}
-use borrow.Author.Rules.{rules}
-use lib.ListN.{length, get_or}
+use lib.ListN.{length}
 use Rattle.base.proofs.Numbers.{turns, stops_below}
-use Rattle.base.proofs.Tests.{Passed, begun, ended}
-use Rattle.road.specs.Table.{Table, metres_rule}
+use Rattle.base.proofs.Tests.{begun, ended}
 use Rattle.road.proofs.legs.test.Invariants.{rule}
 use Rattle.road.proofs.legs.test.Goals as goal
 

@@ -2,10 +2,8 @@
 -- Assumes nothing.
 use Prim.Native.Nat.{ℕ, ◌-◌}
 use mathlib.Core.Bool.{Bool}
-use borrow.Author.Rules.{rules}
 use lib.ListN.{length, get_or}
-use Rattle.base.proofs.Numbers.{turns, stops_below}
-use Rattle.base.proofs.Tests.{Passed, begun, ended}
+use Rattle.base.proofs.Tests.{Passed}
 use Rattle.road.specs.Table.{Table, metres_rule}
 use Rattle.road.proofs.legs.test.Given as goal
 

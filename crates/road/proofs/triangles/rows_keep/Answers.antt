@@ -1,16 +1,12 @@
 -- `road::triangles::rows_keep` meets its contract: the loop keeps whether the places below u all keep the rule.
 -- Assumes nothing.
-use Prim.Native.Nat.{ℕ, ◌-◌, ◌≤◌, zero-le}
+use Prim.Native.Nat.{ℕ, ◌≤◌, zero-le}
 use mathlib.Core.Bool.{Bool, ◌&&◌}
-use mathlib.Core.List.{List}
 use mathlib.Core.Path.{◌≡◌, refl, sym, ap₂, subst}
 use borrow.Author.Rules.{rules}
-use lib.ListN.{length, get_or}
 use native.Mathlib.Nat.{le_antisymm}
 use native.Mathlib.Numerals.{add-one}
 use Rattle.base.specs.Tests.{all_below}
-use Rattle.road.specs.Triangles.{sides_rule}
-use Rattle.road.proofs.triangles.rows_keep.Invariants.{rule}
 use Rattle.road.proofs.triangles.rows_keep.Goals as goal
 
 -- what the loop kept, once it has passed all n, is the test of them all

@@ -1,13 +1,10 @@
 -- `road::triangles::rows_keep` meets its contract: the loop keeps whether the places below u all keep the rule.
 -- Assumes nothing.
-use Prim.Native.Nat.{ℕ, ◌-◌, ◌≤◌, zero-le}
-use mathlib.Core.Bool.{Bool, ◌&&◌}
+use Prim.Native.Nat.{ℕ, ◌-◌, ◌≤◌}
+use mathlib.Core.Bool.{Bool}
 use mathlib.Core.List.{List}
-use mathlib.Core.Path.{◌≡◌, refl, sym, ap₂, subst}
-use borrow.Author.Rules.{rules}
+use mathlib.Core.Path.{◌≡◌}
 use lib.ListN.{length, get_or}
-use native.Mathlib.Nat.{le_antisymm}
-use native.Mathlib.Numerals.{add-one}
 use Rattle.base.specs.Tests.{all_below}
 use Rattle.road.specs.Triangles.{sides_rule}
 use Rattle.road.proofs.triangles.rows_keep.Given as goal

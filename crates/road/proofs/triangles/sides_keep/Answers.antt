@@ -2,7 +2,6 @@
 -- Assumes nothing.
 use mathlib.Core.Bool.{◌&&◌}
 use mathlib.Core.Path.{ap₂}
-use borrow.Author.Rules.{rules}
 use Rattle.road.specs.Triangles.{sides_rule}
 use Rattle.road.proofs.triangles.sides_keep.Goals as goal
 

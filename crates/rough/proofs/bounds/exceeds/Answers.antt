@@ -1,6 +1,5 @@
 -- `rough::bounds::exceeds` meets its contract: it compares the two figures. Assumes nothing.
 use mathlib.Core.Path.{refl}
-use borrow.Author.Rules.{rules}
 use Rattle.rough.proofs.bounds.exceeds.Goals as goal
 
 pub returns : goal.returns

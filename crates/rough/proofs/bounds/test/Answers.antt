@@ -1,13 +1,12 @@
 -- `rough::bounds::test` meets its contract: the loop passes the legs whose lower figure is no higher than the upper. Assumes nothing.
-use Prim.Native.Nat.{ℕ, ◌-◌}
+use Prim.Native.Nat.{ℕ}
 use mathlib.Core.Bool.{Bool, true, false}
 use mathlib.Core.List.{List}
 use mathlib.Core.Path.{◌≡◌, sym, ◌∙◌}
-use borrow.Author.Rules.{rules}
 use borrow.Author.Tests.{le-leb, lt-leb, ltb-true, ltb-false}
-use lib.Dec.{leb, ltb}
+use lib.Dec.{ltb}
 use lib.ListN.{length, get_or}
-use Rattle.base.proofs.Tests.{Passed, begun, turned, ended, below_fails}
+use Rattle.base.proofs.Tests.{begun, turned, ended, below_fails}
 use Rattle.rough.specs.Rough.{bounds_rule}
 use Rattle.rough.proofs.bounds.test.Invariants.{rule}
 use Rattle.rough.proofs.bounds.test.Goals as goal

@@ -1,14 +1,10 @@
 -- `rough::bounds::test` meets its contract: the loop passes the legs whose lower figure is no higher than the upper. Assumes nothing.
 use Prim.Native.Nat.{ℕ, ◌-◌}
-use mathlib.Core.Bool.{Bool, true, false}
+use mathlib.Core.Bool.{Bool}
 use mathlib.Core.List.{List}
-use mathlib.Core.Path.{◌≡◌, sym, ◌∙◌}
-use borrow.Author.Rules.{rules}
-use borrow.Author.Tests.{le-leb, lt-leb, ltb-true, ltb-false}
-use lib.Dec.{leb, ltb}
+use lib.Dec.{leb}
 use lib.ListN.{length, get_or}
-use Rattle.base.proofs.Tests.{Passed, begun, turned, ended, below_fails}
-use Rattle.rough.specs.Rough.{bounds_rule}
+use Rattle.base.proofs.Tests.{Passed}
 use Rattle.rough.proofs.bounds.test.Given as goal
 
 -- what the loop tests of each leg

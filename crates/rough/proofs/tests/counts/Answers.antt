@@ -1,6 +1,5 @@
 -- `rough::tests::counts` meets its contract: 3 for the lower table is handed up, else the counts with the upper table's length decide.
 -- Assumes nothing.
-use borrow.Author.Rules.{rules}
 use Rattle.base.proofs.Numbers.{goes_on, handed_up}
 use Rattle.rough.specs.Rough.{two_counts_refusal}
 use Rattle.rough.proofs.tests.counts.Goals as goal

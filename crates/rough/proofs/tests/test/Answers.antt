@@ -1,7 +1,6 @@
 -- `rough::tests::test` meets its contract: each refusal is handed up, and where none applies the next test decides. Assumes nothing.
 use Prim.Native.Nat.{ℕ}
 use mathlib.Core.Path.{◌≡◌, sym, ◌∙◌}
-use borrow.Author.Rules.{rules}
 use lib.ListN.{length}
 use Rattle.base.specs.Numbers.{◌then◌}
 use Rattle.base.proofs.Numbers.{accepts, holds, asked_again, goes_on, handed_up, same_tests}
@@ -24,7 +23,6 @@ counts c t n q = goes_on _ _ t n c.in-Accepted.is c.counts-counted.ensures q
 -- the metres of the lower table are within the limit
 lows : (c : In-Accepted-figured) (t n : ℕ) → n ≡ t → n ≡ (legs_refusal c.args.lower.now then t)
 lows c t n q =
-    
     let counts_so_here : CountsTested c.args.day.places (length c.args.lower.now) c.args.day.cranes c.args.day.calls
     × CountsTested c.args.day.places (length c.args.upper.now) c.args.day.cranes c.args.day.calls = two_counts _ _ _ (accepts _ _ c.in-Accepted.is c.counts-counted.ensures)
     in
@@ -34,7 +32,6 @@ lows c t n q =
 -- those of the upper table
 highs : (c : In-Accepted-figured-2) (t n : ℕ) → n ≡ t → n ≡ (legs_refusal c.args.upper.now then t)
 highs c t n q =
-    
     let counts_so_here : CountsTested c.args.day.places (length c.args.lower.now) c.args.day.cranes c.args.day.calls
     × CountsTested c.args.day.places (length c.args.upper.now) c.args.day.cranes c.args.day.calls = two_counts _ _ _ (accepts _ _ c.in-Accepted.is c.counts-counted.ensures)
     in

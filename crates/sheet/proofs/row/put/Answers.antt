@@ -1,6 +1,5 @@
 -- `sheet::row::put` meets its contract: the columns are written one behind another.
 -- Assumes nothing.
-use borrow.Author.Rules.{rules}
 use Rattle.sheet.proofs.row.Laws.{columns_put}
 use Rattle.sheet.proofs.row.put.Goals as goal
 

@@ -1,12 +1,10 @@
 -- `sheet::row::put_aligned` meets its contract: from the last byte back, what is put and the bytes still to be put are the number
 -- aligned right. Assumes nothing.
 use Prim.Native.Nat.{◌+◌, ◌-◌, ◌%◌}
-use mathlib.Core.Logic.{⊎_elim}
 use mathlib.Core.Path.{◌≡◌, ◌∙◌}
-use borrow.Author.Rules.{rules}
 use lib.ListN.{length, set, length-set}
 use native.Mathlib.Omega.{arith}
-use Rattle.sheet.proofs.row.Laws.{mark_none, mark_some, Aligning, align_begun, align_turned, align_ended}
+use Rattle.sheet.proofs.row.Laws.{mark_none, mark_some, align_begun, align_turned, align_ended}
 use Rattle.sheet.proofs.row.put_aligned.Goals as goal
 use Rattle.sheet.proofs.row.put_aligned.Goals.{Start, else-rest-eq0, then-rest-eq0}
 

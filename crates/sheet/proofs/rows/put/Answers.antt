@@ -1,15 +1,9 @@
 -- `sheet::rows::put` meets its contract: the rows are written one behind another.
 -- Assumes nothing.
-use Prim.Native.Nat.{◌-◌}
-use mathlib.Core.List.{flat_map}
 use mathlib.Core.Path.{sym, subst}
-use borrow.Author.Rules.{rules}
-use lib.ListN.{length}
 use native.Mathlib.Omega.{arith}
-use Rattle.base.specs.Lists.{up_to}
-use Rattle.base.proofs.Lists.{Spliced, splice_ended}
-use Rattle.sheet.specs.Row.{row_bytes, Fits}
-use Rattle.sheet.specs.Sheet.{row_at}
+use Rattle.base.proofs.Lists.{splice_ended}
+use Rattle.sheet.specs.Row.{Fits}
 use Rattle.sheet.proofs.rows.Laws.{rows_begun, rows_turned, numbered}
 use Rattle.sheet.proofs.rows.put.Goals as goal
 

@@ -2,15 +2,11 @@
 -- Assumes nothing.
 use Prim.Native.Nat.{◌-◌}
 use mathlib.Core.List.{flat_map}
-use mathlib.Core.Path.{sym, subst}
-use borrow.Author.Rules.{rules}
 use lib.ListN.{length}
-use native.Mathlib.Omega.{arith}
 use Rattle.base.specs.Lists.{up_to}
-use Rattle.base.proofs.Lists.{Spliced, splice_ended}
-use Rattle.sheet.specs.Row.{row_bytes, Fits}
+use Rattle.base.proofs.Lists.{Spliced}
+use Rattle.sheet.specs.Row.{row_bytes}
 use Rattle.sheet.specs.Sheet.{row_at}
-use Rattle.sheet.proofs.rows.Laws.{rows_begun, rows_turned, numbered}
 use Rattle.sheet.proofs.rows.put.Given as goal
 
 abbrev pub invariant-loop-i : goal.invariant-loop-i
