@@ -1,5 +1,5 @@
 // Runs document 01's cases on the compiled library and prints what each gives, below a legend of the lines. Stands on all the libraries here
-// but `season`, and on std for writing.
+// but `season` and `rough`, and on std for writing.
 #![tactic(auto)]
 
 mod books;

@@ -1,4 +1,4 @@
-// Reading all of a reader, as standard input, for the programs. Stands on std alone.
+// Reading all of a reader, as standard input, for the programs. Stands on std, and on `base` for its contracts.
 #![tactic(auto)]
 
 ghost use Rattle.std.specs.Prelude.{IfSome};

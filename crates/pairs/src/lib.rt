@@ -3,10 +3,10 @@
 //
 // src/table.rt is the text that the program `pairtable` prints. After a change of the order or of the most places it is made anew by
 //
-//     rm -f target/bin/pairtable; rt check pairtable
-//     target/bin/pairtable > crates/pairtable/stdout && cp crates/pairtable/stdout crates/pairs/src/table.rt
+//     (cd crates/pairtable && rt run)
+//     crates/pairtable/out/pairtable > crates/pairtable/stdout && cp crates/pairtable/stdout crates/pairs/src/table.rt
 //
-// where the check tells that the print is not the stored one. The two files are compared by
+// at the top of the repository. The two files are compared by
 //
 //     cmp crates/pairtable/stdout crates/pairs/src/table.rt
 #![tactic(auto)]
