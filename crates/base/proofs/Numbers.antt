@@ -1,4 +1,4 @@
--- What the number of a verdict tells: of the rule that was tested, and of the tests that come after.
+-- What the number of an answer tells: of the rule that was tested, and of the tests that come after.
 -- Assumes nothing.
 use Prim.Native.Nat.{ℕ, zero, suc, ◌+◌, ◌<◌}
 use mathlib.Core.Bool.{Bool, true, false, ◌&&◌}
@@ -6,47 +6,65 @@ use mathlib.Core.Path.{◌≡◌, refl, sym, ap, ◌∙◌}
 use mathlib.Core.List.{List, [], ◌∷◌}
 use lib.ListN.{get_or}
 use native.Mathlib.Omega.{arith}
+use Rattle.std.specs.Prelude.{Result, Ok, Err, IsErrAnd, ⊤}
 use Rattle.base.specs.declared.Refusal.{Refusal}
 use Rattle.base.specs.declared.Refusal.TheVariants.{Length, Record, Order, Metres, Place, Cranes, Calls, Triangle, Plan, Weights, Buffer, Crane, Driven, Date, Bounds}
-use Rattle.base.specs.declared.Verdict.{Verdict}
-use Rattle.base.specs.declared.Verdict.TheVariants.{Accepted, Refused}
 use Rattle.base.specs.Numbers.{refusal_number, number_of, unless, ◌then◌, unless_refused}
 use Rattle.base.specs.Tests.{all_below}
 use Rattle.base.proofs.Tests.{Passed, turned, below_fails}
 
--- the verdicts in the order of their numbers
-verdicts : List Verdict
-verdicts =
-    Accepted ∷ Refused Length ∷ Refused Record ∷ Refused Order ∷ Refused Metres ∷ Refused Place ∷ Refused Cranes ∷
-    Refused Calls ∷ Refused Triangle ∷ Refused Plan ∷ Refused Weights ∷ Refused Buffer ∷ Refused Crane ∷ Refused Driven ∷ Refused Date ∷
-    Refused Bounds ∷ []
+-- the refusals in the order of their numbers
+refusals : List Refusal
+refusals =
+    Length ∷ Length ∷ Record ∷ Order ∷ Metres ∷ Place ∷ Cranes ∷ Calls ∷ Triangle ∷ Plan ∷ Weights ∷ Buffer ∷ Crane ∷ Driven ∷ Date ∷
+    Bounds ∷ []
 
-from_number : (v : Verdict) → get_or verdicts (number_of v) Accepted ≡ v
-unfolding verdicts
-from_number Accepted = refl
-from_number (Refused Length) = refl
-from_number (Refused Record) = refl
-from_number (Refused Order) = refl
-from_number (Refused Metres) = refl
-from_number (Refused Place) = refl
-from_number (Refused Cranes) = refl
-from_number (Refused Calls) = refl
-from_number (Refused Triangle) = refl
-from_number (Refused Plan) = refl
-from_number (Refused Weights) = refl
-from_number (Refused Buffer) = refl
-from_number (Refused Crane) = refl
-from_number (Refused Driven) = refl
-from_number (Refused Date) = refl
-from_number (Refused Bounds) = refl
+from_number : (x : Refusal) → get_or refusals (refusal_number x) Length ≡ x
+unfolding refusals
+from_number Length = refl
+from_number Record = refl
+from_number Order = refl
+from_number Metres = refl
+from_number Place = refl
+from_number Cranes = refl
+from_number Calls = refl
+from_number Triangle = refl
+from_number Plan = refl
+from_number Weights = refl
+from_number Buffer = refl
+from_number Crane = refl
+from_number Driven = refl
+from_number Date = refl
+from_number Bounds = refl
 
--- a contract that gives the number gives the verdict
-pub number_settles : (v w : Verdict) → number_of v ≡ number_of w → v ≡ w
-number_settles v w e = sym (from_number v) ∙ ap (λ (n : ℕ). get_or verdicts n Accepted) e ∙ from_number w
+-- the number of a refusal tells the refusal
+pub refusal_settles : (x y : Refusal) → refusal_number x ≡ refusal_number y → x ≡ y
+refusal_settles x y e = sym (from_number x) ∙ ap (λ (n : ℕ). get_or refusals n Length) e ∙ from_number y
 
 -- no refusal has the number 0, which is that of an accepted input
-positive : (x : Refusal) → refusal_number x ≡ 0 → ⊥
-positive x h = let z : ◌≡◌ {A = ℕ} 0 1 = cc (number_settles (Refused x) Accepted h) in omega arith
+pub refused_number : (x : Refusal) → refusal_number x ≡ 0 → ⊥
+refused_number Length h = omega arith
+refused_number Record h = omega arith
+refused_number Order h = omega arith
+refused_number Metres h = omega arith
+refused_number Place h = omega arith
+refused_number Cranes h = omega arith
+refused_number Calls h = omega arith
+refused_number Triangle h = omega arith
+refused_number Plan h = omega arith
+refused_number Weights h = omega arith
+refused_number Buffer h = omega arith
+refused_number Crane h = omega arith
+refused_number Driven h = omega arith
+refused_number Date h = omega arith
+refused_number Bounds h = omega arith
+
+-- a contract that gives the number of a test gives its answer
+pub number_settles : (v w : Result ⊤ Refusal) → number_of v ≡ number_of w → v ≡ w
+number_settles (Ok a) (Ok b) e = refl
+number_settles (Ok a) (Err y) e = absurd (refused_number y (sym e))
+number_settles (Err x) (Ok b) e = absurd (refused_number x e)
+number_settles (Err x) (Err y) e = ap Err (refusal_settles x y e)
 
 pub unless-zero : (b : Bool) (k : ℕ) → unless b (suc k) ≡ 0 → b ≡ true
 unless-zero true k h = refl
@@ -102,49 +120,48 @@ same_tests (suc s) s' t t' e same = rw (← e)
 pub asked_again : (s t n : ℕ) → s ≡ 0 → n ≡ (s then t) → n ≡ t
 asked_again s t n e h = h ∙ ap (λ (k : ℕ). k then t) e
 
-module _ (v : Verdict) where
-  -- an accepted verdict: no refusal applies
-  pub accepts : (s : ℕ) → v ≡ Accepted → number_of v ≡ s → s ≡ 0
-  accepts s e h = sym h ∙ ap number_of e
+-- a rule that was tested and accepted holds
+pub holds : (b : Bool) (k : ℕ) → 0 ≡ unless b (suc k) → b ≡ true
+holds b k h = unless-zero b k (sym h)
 
-  -- an accepted verdict: the rule holds
-  pub holds : (b : Bool) (k : ℕ) → v ≡ Accepted → number_of v ≡ unless b (suc k) → b ≡ true
-  holds b k e h = unless-zero b k (accepts (unless b (suc k)) e h)
+-- where a test accepts, the test after it decides
+pub goes_on : (s t n : ℕ) → 0 ≡ s → n ≡ t → n ≡ (s then t)
+goes_on s t n h q = q ∙ ap (λ (k : ℕ). k then t) h
 
-  -- an accepted verdict: the test after it decides
-  pub goes_on : (s t n : ℕ) → v ≡ Accepted → number_of v ≡ s → n ≡ t → n ≡ (s then t)
-  goes_on s t n e h q = q ∙ sym (ap (λ (k : ℕ). k then t) (accepts s e h))
+-- where a test accepts, of two rules under one number the second decides
+pub second_decides : (a b : Bool) (k n : ℕ) → 0 ≡ unless a (suc k) → n ≡ unless b (suc k) → n ≡ unless (a && b) (suc k)
+second_decides a b k n h q = rw (holds a k h) q
 
-  -- an accepted verdict: of two rules under one number the second decides
-  pub second_decides : (a b : Bool) (k n : ℕ) → v ≡ Accepted → number_of v ≡ unless a (suc k) → n ≡ unless b (suc k)
-      → n ≡ unless (a && b) (suc k)
-  second_decides a b k n e h q = rw (holds a k e h) q
+-- where a test accepts, a loop of such tests goes on
+pub turns : (n i k : ℕ) (P : ℕ → Bool) → 0 ≡ unless (P i) (suc k) → i < n → Passed n P i → Passed n P (i + 1)
+turns n i k P h lt p = turned n P i p lt (holds (P i) k h)
 
-  -- an accepted verdict: a loop of such tests goes on
-  pub turns : (n i k : ℕ) (P : ℕ → Bool) → v ≡ Accepted → number_of v ≡ unless (P i) (suc k) → i < n → Passed n P i → Passed n P (i + 1)
-  turns n i k P e h lt p = turned n P i p lt (holds (P i) k e h)
+module _ (x : Refusal) where
+  -- a rule that was tested and refused is broken
+  pub broken : (b : Bool) (r : ℕ) → refusal_number x ≡ unless b r → b ≡ false
+  broken true r h = absurd (refused_number x h)
+  broken false r h = refl
 
-  module _ (x : Refusal) (e : v ≡ Refused x) where
-    -- a refusal has a number other than 0
-    pub refused_number : number_of v ≡ 0 → ⊥
-    refused_number h = positive x (sym (ap number_of e) ∙ h)
+  -- a refusal of one is a refusal of all, under the same number
+  pub stops : (b all : Bool) (r : ℕ) → refusal_number x ≡ unless b r → (b ≡ false → all ≡ false) → refusal_number x ≡ unless all r
+  stops b all r h f = h ∙ rw (broken b r h, f (broken b r h))
 
-    broken : (b : Bool) (r : ℕ) → number_of v ≡ unless b r → b ≡ false
-    broken true r h = absurd (refused_number h)
-    broken false r h = refl
+  -- a loop of tests under one number is refused by the first that refuses
+  pub stops_below : (n i r : ℕ) (P : ℕ → Bool) → refusal_number x ≡ unless (P i) r → i < n → refusal_number x ≡ unless (all_below n P) r
+  stops_below n i r P h lt = stops (P i) (all_below n P) r h (below_fails P n i lt)
 
-    -- a refusal of one is a refusal of all, under the same number
-    pub stops : (b all : Bool) (r : ℕ) → number_of v ≡ unless b r → (b ≡ false → all ≡ false) → number_of v ≡ unless all r
-    stops b all r h f = h ∙ rw (broken b r h, f (broken b r h))
+  -- of two rules under one number the first refuses
+  pub first_stops : (a b : Bool) (r : ℕ) → refusal_number x ≡ unless a r → refusal_number x ≡ unless (a && b) r
+  first_stops a b r h = stops a (a && b) r h (λ f. rw f)
 
-    -- a loop of tests under one number is refused by the first that refuses
-    pub stops_below : (n i r : ℕ) (P : ℕ → Bool) → number_of v ≡ unless (P i) r → i < n → number_of v ≡ unless (all_below n P) r
-    stops_below n i r P h lt = stops (P i) (all_below n P) r h (below_fails P n i lt)
+  -- a refusal is handed up with its number, whatever test was to come after it
+  pub handed_up : (s t : ℕ) → refusal_number x ≡ s → refusal_number x ≡ (s then t)
+  handed_up s t h = h ∙ refused_first s t (λ e. refused_number x (h ∙ e))
 
-    -- of two rules under one number the first refuses
-    pub first_stops : (a b : Bool) (r : ℕ) → number_of v ≡ unless a r → number_of v ≡ unless (a && b) r
-    first_stops a b r h = stops a (a && b) r h (λ f. rw f)
+-- what a `?` hands up has the number of the refusal that it met
+pub up : {A : Type 0} (r : Result A Refusal) (x : Refusal) (n : ℕ) → IsErrAnd r (λ y. y ≡ x) → refusal_number x ≡ n → number_of r ≡ n
+up (Ok a) x n h e = absurd h
+up (Err y) x n h e = ap refusal_number h ∙ e
 
-    -- a refusal is handed up with its number, whatever test was to come after it
-    pub handed_up : (s t : ℕ) → number_of v ≡ s → number_of v ≡ (s then t)
-    handed_up s t h = h ∙ refused_first s t (λ e. refused_number (h ∙ e))
+-- the laws by which a function that hands refusals up by `?` meets its contract
+pub ruleset handing = (up, goes_on, handed_up)

@@ -1,9 +1,7 @@
--- The number for each refusal and each verdict, and tests in their order.
-use Rattle.std.specs.Prelude.{ℕ, zero, suc, Bool, cond}
+-- The number for each refusal and each answer, and tests in their order.
+use Rattle.std.specs.Prelude.{ℕ, zero, suc, Bool, cond, Result, Ok, Err}
 use Rattle.base.specs.declared.Refusal.{Refusal}
 use Rattle.base.specs.declared.Refusal.TheVariants.{Length, Record, Order, Metres, Place, Cranes, Calls, Triangle, Plan, Weights, Buffer, Crane, Driven, Date, Bounds}
-use Rattle.base.specs.declared.Verdict.{Verdict}
-use Rattle.base.specs.declared.Verdict.TheVariants.{Accepted, Refused}
 
 infixr 20 ◌then◌
 -- the column "Returned" of the refusal table; 12 is paper 3's, 13 paper 5's, 14 paper 10's, 15 paper 11's
@@ -24,10 +22,10 @@ refusal_number Driven = 13
 refusal_number Date = 14
 refusal_number Bounds = 15
 
--- 0 where no refusal applies
-abbrev pub number_of : Verdict → ℕ
-number_of Accepted = 0
-number_of (Refused r) = refusal_number r
+-- 0 where no refusal applies, whatever was answered
+abbrev pub number_of : {A : Type 0} → Result A Refusal → ℕ
+number_of (Ok answer) = 0
+number_of (Err r) = refusal_number r
 
 -- the refusal r unless its rule holds
 abbrev pub unless : Bool → ℕ → ℕ

@@ -1,12 +1,12 @@
-// What every layer shares: the refusals with their numbers and the answer of a test; in specs/, tests over all numbers
+// What every layer shares: the refusals with their numbers; in specs/, tests over all numbers
 // below a bound, lists that are filled or written into others, and the laws of a metric. Stands on nothing.
 #![tactic(auto)]
 
 ghost use Rattle.std.specs.Prelude.{◌≡◌};
-ghost use Rattle.base.specs.Numbers.{number_of, ◌then◌};
+ghost use Rattle.base.specs.Numbers.{refusal_number, number_of};
 
 // One case for each row of document 01's refusal table, 1 to 11, for 12 of paper 3, 13 of paper 5, 14 of paper 10 and 15 of paper 11.
-#[derive(Clone, Copy)]
+#[derive(Clone, Copy, Debug, PartialEq, Eq)]
 pub enum Refusal {
     // The length of a file.
     Length,
@@ -40,47 +40,37 @@ pub enum Refusal {
     Bounds,
 }
 
-// The answer of a test: accepted, or the first refusal that applies.
-#[derive(Clone, Copy)]
-pub enum Verdict {
-    Accepted,
-    Refused(Refusal),
-}
+// The number of a refusal.
+impl From<Refusal> for u8 {
+    ghost from_gives = { λ r n. n ≡ refusal_number r };
 
-impl Verdict {
-    // Two tests in order: the refusal of this one, else what the next says.
-    pub fn then(self, next: Verdict) -> Verdict
-        ensures { number_of result ≡ (number_of self then number_of next) }
-    {
-        let Verdict::Accepted = self else {
-            return self;
-        };
-        next
+    fn from(refusal: Refusal) -> u8 {
+        match refusal {
+            Refusal::Length => 1,
+            Refusal::Record => 2,
+            Refusal::Order => 3,
+            Refusal::Metres => 4,
+            Refusal::Place => 5,
+            Refusal::Cranes => 6,
+            Refusal::Calls => 7,
+            Refusal::Triangle => 8,
+            Refusal::Plan => 9,
+            Refusal::Weights => 10,
+            Refusal::Buffer => 11,
+            Refusal::Crane => 12,
+            Refusal::Driven => 13,
+            Refusal::Date => 14,
+            Refusal::Bounds => 15,
+        }
     }
 }
 
-// The number of a verdict, 0 where it accepts.
-pub fn number(v: Verdict) -> u8
-    ensures { result ≡ number_of v }
+// The number of an answer, 0 where no refusal applies.
+pub fn number<T: Copy>(answer: Result<T, Refusal>) -> u8
+    ensures { result ≡ number_of answer }
 {
-    let Verdict::Refused(refusal) = v else {
+    let Err(refusal) = answer else {
         return 0;
     };
-    match refusal {
-        Refusal::Length => 1,
-        Refusal::Record => 2,
-        Refusal::Order => 3,
-        Refusal::Metres => 4,
-        Refusal::Place => 5,
-        Refusal::Cranes => 6,
-        Refusal::Calls => 7,
-        Refusal::Triangle => 8,
-        Refusal::Plan => 9,
-        Refusal::Weights => 10,
-        Refusal::Buffer => 11,
-        Refusal::Crane => 12,
-        Refusal::Driven => 13,
-        Refusal::Date => 14,
-        Refusal::Bounds => 15,
-    }
+    u8::from(refusal)
 }

@@ -9,10 +9,8 @@ use lib.ListN.{length, get_or, get_or-eq_default}
 use native.Mathlib.Decide.{dec_lt}
 use native.Mathlib.Nat.{le_of_lt, le_of_eq}
 use native.Mathlib.Omega.{arith}
-use Rattle.base.specs.declared.Verdict.{Verdict}
-use Rattle.base.specs.declared.Verdict.TheVariants.{Accepted}
 use Rattle.base.specs.Numbers.{number_of}
-use Rattle.base.proofs.Numbers.{accepts, holds, first_of, unless-zero}
+use Rattle.base.proofs.Numbers.{holds, first_of, unless-zero}
 use Rattle.base.proofs.Tests.{by_order, within_yes, within_most, below_at}
 use Rattle.road.specs.Table.{Table, most_places, most_metres, leg_count, leg_index, metres_of, entry, places_rule, places_refusal, run_refusal, metres_rule, legs_rule}
 
@@ -50,8 +48,8 @@ metres_both t u v = by_order u v
     (λ (l : v < u). metres_down t u v l ∙ sym (metres_up t v u l))
 
 -- an accepted number of places
-pub few_places : (v : Verdict) (n : ℕ) → v ≡ Accepted → number_of v ≡ places_refusal n → n ≤ most_places
-few_places v n e h = within_most 1 most_places n (holds v (places_rule n) 2 e h)
+pub few_places : (n : ℕ) → 0 ≡ places_refusal n → n ≤ most_places
+few_places n h = within_most 1 most_places n (holds (places_rule n) 2 h)
 
 -- an accepted run has the legs of its places
 pub run_accepted : (n l : ℕ) → run_refusal n l ≡ 0 → (places_rule n ≡ true) × (l ≡ leg_count n)
@@ -64,9 +62,9 @@ pub run_passes : (n l : ℕ) → 1 ≤ n → n ≤ most_places → l ≡ leg_cou
 unfolding run_refusal
 run_passes n l least most e = rw (within_yes 1 most_places n least most, eq-eqb l (leg_count n) e)
 
-pub run_held : (v : Verdict) (n l : ℕ) → v ≡ Accepted → number_of v ≡ run_refusal n l → (n ≤ most_places) × (leg_count n ≤ l)
-run_held v n l e h =
-    let told = run_accepted n l (accepts v _ e h) in
+pub run_held : (n l : ℕ) → 0 ≡ run_refusal n l → (n ≤ most_places) × (leg_count n ≤ l)
+run_held n l h =
+    let told = run_accepted n l (sym h) in
     (within_most 1 most_places n told.0, le_of_eq (sym told.1))
 
 -- accepted metres

@@ -4,7 +4,7 @@ ghost use Rattle.base.specs.Numbers.{number_of};
 ghost use Rattle.road.specs.Table.{metres_of, entry, legs_refusal};
 
 use crate::Road;
-use base::Verdict;
+use base::Refusal;
 
 // The metres of the leg from u to the later place v; 0 past the most places, and past the run.
 pub(crate) fn metres(table: &[u32], u: usize, v: usize) -> u32
@@ -22,16 +22,11 @@ pub(crate) fn metres(table: &[u32], u: usize, v: usize) -> u32
 }
 
 // 4 unless the metres of every leg are within the limit.
-pub(crate) fn test(table: &[u32]) -> Verdict
+pub(crate) fn test(table: &[u32]) -> Result<(), Refusal>
     ensures { number_of result ≡ legs_refusal table.now }
 {
-    let mut i = 0;
-    while i < table.len() {
-        let leg = Road::test_metres(table[i]);
-        let Verdict::Accepted = leg else {
-            return leg;
-        };
-        i += 1;
+    for metres in table {
+        Road::test_metres(*metres)?;
     }
-    Verdict::Accepted
+    Ok(())
 }

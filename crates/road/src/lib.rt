@@ -9,7 +9,7 @@ ghost use Rattle.std.specs.Prelude.{◌≡◌, length};
 ghost use Rattle.base.specs.Numbers.{number_of, ◌then◌};
 ghost use Rattle.road.specs.Table.{legs_of, metres_of, entry, places_refusal, run_refusal, metres_refusal, legs_refusal, triangle_refusal, table_refusal};
 
-use base::{Refusal, Verdict};
+use base::Refusal;
 
 // The road table's limits and functions. A table is a lent run of numbers beside its number of places: the metres of the legs (0,1),
 // (0,2), (1,2), (0,3) and so on, by second place, then by first. No struct here holds it.
@@ -27,16 +27,14 @@ impl Road {
     pub const LEGS: usize = 2_016;
 
     // How many legs a table of so many places has; 0 for more places than a table may have.
+    #[tactic(auto, using(crate::proofs::Order::legs_counted), unfolding(crate::specs::Table::leg_count))]
     pub fn legs(places: usize) -> usize
         ensures { result ≡ legs_of places }
     {
-        if places == 0 {
-            return 0;
+        match places {
+            1..=Road::PLACES => places * (places - 1) / 2,
+            _ => 0,
         }
-        if places <= Road::PLACES {
-            return places * (places - 1) / 2;
-        }
-        0
     }
 
     // The metres from one place to another; 0 past the most places, and past the run.
@@ -53,76 +51,61 @@ impl Road {
     }
 
     // 3 unless the number of places is within its limits.
-    pub fn test_places(places: usize) -> Verdict
+    #[tactic(auto, unfolding(base::specs::Tests::within))]
+    pub fn test_places(places: usize) -> Result<(), Refusal>
         ensures { number_of result ≡ places_refusal places }
     {
-        if places < 1 {
-            return Verdict::Refused(Refusal::Order);
+        match places {
+            1..=Road::PLACES => Ok(()),
+            _ => Err(Refusal::Order),
         }
-        if Road::PLACES < places {
-            return Verdict::Refused(Refusal::Order);
-        }
-        Verdict::Accepted
     }
 
     // 3 unless the number of places is within its limits and they have so many legs.
-    pub fn test_run(places: usize, legs: usize) -> Verdict
+    #[tactic(auto, using(base::proofs::Numbers::handing, crate::proofs::Table::few_places, crate::proofs::Order::legs_counted), unfolding(crate::specs::Table::run_refusal))]
+    pub fn test_run(places: usize, legs: usize) -> Result<(), Refusal>
         ensures { number_of result ≡ run_refusal places legs }
     {
-        let placed = Road::test_places(places);
-        let Verdict::Accepted = placed else {
-            return placed;
-        };
+        Road::test_places(places)?;
         if legs != Road::legs(places) {
-            return Verdict::Refused(Refusal::Order);
+            return Err(Refusal::Order);
         }
-        Verdict::Accepted
+        Ok(())
     }
 
     // 4 if the metres of a leg are above the limit.
-    pub fn test_metres(metres: u32) -> Verdict
+    pub fn test_metres(metres: u32) -> Result<(), Refusal>
         ensures { number_of result ≡ metres_refusal metres }
     {
         if Road::METRES < metres {
-            return Verdict::Refused(Refusal::Metres);
+            return Err(Refusal::Metres);
         }
-        Verdict::Accepted
+        Ok(())
     }
 
     // 3, then 4 unless the metres of every leg are within the limit.
-    pub fn test_legs(places: usize, table: &[u32]) -> Verdict
+    #[tactic(auto, using(base::proofs::Numbers::handing))]
+    pub fn test_legs(places: usize, table: &[u32]) -> Result<(), Refusal>
         ensures { number_of result ≡ run_refusal places (length table.now) then legs_refusal table.now }
     {
-        let counted = Road::test_run(places, table.len());
-        let Verdict::Accepted = counted else {
-            return counted;
-        };
+        Road::test_run(places, table.len())?;
         legs::test(table)
     }
 
     // 3, then 8 unless every three places keep the triangle rule.
-    pub fn test_triangles(places: usize, table: &[u32]) -> Verdict
+    #[tactic(auto, using(base::proofs::Numbers::handing, crate::proofs::Table::run_held))]
+    pub fn test_triangles(places: usize, table: &[u32]) -> Result<(), Refusal>
         ensures { number_of result ≡ run_refusal places (length table.now) then triangle_refusal places table.now }
     {
-        let counted = Road::test_run(places, table.len());
-        let Verdict::Accepted = counted else {
-            return counted;
-        };
+        Road::test_run(places, table.len())?;
         triangles::test(table, places)
     }
 
     // The whole test of a table: 3, then 4, then 8.
-    pub fn test(places: usize, table: &[u32]) -> Verdict
+    pub fn test(places: usize, table: &[u32]) -> Result<(), Refusal>
         ensures { number_of result ≡ table_refusal places table.now }
     {
-        let counted = Road::test_run(places, table.len());
-        let Verdict::Accepted = counted else {
-            return counted;
-        };
-        let legged = legs::test(table);
-        let Verdict::Accepted = legged else {
-            return legged;
-        };
+        Road::test_legs(places, table)?;
         triangles::test(table, places)
     }
 }

@@ -7,7 +7,7 @@ ghost use Rattle.road.specs.Table.{most_places, leg_count, metres_of, triangle_r
 ghost use Rattle.road.specs.Triangles.{sides_rule, pair_rule, place_rule};
 
 use crate::Road;
-use base::{Refusal, Verdict};
+use base::Refusal;
 
 // Whether a leg is no longer than two others together. What is left of it past the first is compared with the second, since the sum
 // may not fit.
@@ -35,16 +35,14 @@ fn rows_keep(near: &[u32], far: &[u32], across: u32) -> bool
     ensures { result ≡ all_below (length near.now) (λ u. sides_rule (get_or near.now u 0) (get_or far.now u 0) across) }
 {
     let mut kept = true;
-    let mut u = 0;
-    while u < near.len() {
-        kept = kept & sides_keep(near[u], far[u], across);
-        u += 1;
+    for (u, leg) in near.iter().enumerate() {
+        kept &= sides_keep(*leg, far[u], across);
     }
     kept
 }
 
 // 8 unless the rule holds of v and the later place w with each place before v.
-fn test_pair(table: &[u32], v: usize, w: usize) -> Verdict
+fn test_pair(table: &[u32], v: usize, w: usize) -> Result<(), Refusal>
     requires { (v < w) × ((w < most_places) × (leg_count w + w ≤ length table.now)) }
     ensures { number_of result ≡ unless (pair_rule (metres_of table.now) w v) 8 }
 {
@@ -52,39 +50,29 @@ fn test_pair(table: &[u32], v: usize, w: usize) -> Verdict
     let far = Road::legs(w);
     let across = table[far + v];
     if rows_keep(&table[near..near + v], &table[far..far + v], across) {
-        return Verdict::Accepted;
+        return Ok(());
     }
-    Verdict::Refused(Refusal::Triangle)
+    Err(Refusal::Triangle)
 }
 
 // 8 unless the rule holds of w with each two places before it.
-fn test_place(table: &[u32], w: usize) -> Verdict
+fn test_place(table: &[u32], w: usize) -> Result<(), Refusal>
     requires { (w < most_places) × (leg_count w + w ≤ length table.now) }
     ensures { number_of result ≡ unless (place_rule (metres_of table.now) w) 8 }
 {
-    let mut v = 0;
-    while v < w {
-        let pair = test_pair(table, v, w);
-        let Verdict::Accepted = pair else {
-            return pair;
-        };
-        v += 1;
+    for v in 0..w {
+        test_pair(table, v, w)?;
     }
-    Verdict::Accepted
+    Ok(())
 }
 
 // 8 unless every three places keep the triangle rule.
-pub(crate) fn test(table: &[u32], places: usize) -> Verdict
+pub(crate) fn test(table: &[u32], places: usize) -> Result<(), Refusal>
     requires { (places ≤ most_places) × (leg_count places ≤ length table.now) }
     ensures { number_of result ≡ triangle_refusal places table.now }
 {
-    let mut w = 0;
-    while w < places {
-        let place = test_place(table, w);
-        let Verdict::Accepted = place else {
-            return place;
-        };
-        w += 1;
+    for w in 0..places {
+        test_place(table, w)?;
     }
-    Verdict::Accepted
+    Ok(())
 }

@@ -1,23 +1,20 @@
--- `road::Road::test` meets its contract: 3 and 4 are handed up in this order, and where neither applies 8 decides.
+-- `road::Road::test` meets its contract: 3 and 4 are handed up, and where neither applies 8 decides.
 -- Assumes nothing.
-use borrow.Author.Rules.{rules}
-use Rattle.base.proofs.Numbers.{goes_on, handed_up}
+use mathlib.Core.Path.{sym, ◌∙◌}
+use lib.ListN.{length}
+use Rattle.base.proofs.Numbers.{up, then_zero, then_assoc, goes_on, handed_up}
+use Rattle.road.specs.Table.{run_refusal, legs_refusal, triangle_refusal}
 use Rattle.road.proofs.Table.{run_held}
 use Rattle.road.proofs.Road.test.Goals as goal
 
-pub returns-in_default : goal.returns-in_default
-returns-in_default c = handed_up _ c.in_default.field-0 c.in_default.is _ _ c.test_run-counted.ensures
-
-pub test-legged-requires : goal.test-legged-requires
-test-legged-requires c = let held = run_held _ _ _ c.in-Accepted.is c.test_run-counted.ensures in search rules
-
-pub returns-in_default-legged : goal.returns-in_default-legged
-returns-in_default-legged c = goes_on _ _ _ _ c.in-Accepted.is c.test_run-counted.ensures
-    (handed_up _ c.in_default-legged.field-0 c.in_default-legged.is _ _ c.test-legged.ensures)
+pub returns-in_err-test_legs : goal.returns-in_err-test_legs
+returns-in_err-test_legs c = up _ _ _ c.from_residual.ensures.1
+    (handed_up _ _ (triangle_refusal c.args.places c.args.table.now) c.in_err-test_legs.ensures
+    ∙ then_assoc (run_refusal c.args.places (length c.args.table.now)) (legs_refusal c.args.table.now) _)
 
 pub test-requires : goal.test-requires
-test-requires c = run_held _ _ _ c.in-Accepted.is c.test_run-counted.ensures
+test-requires c = run_held _ _ (sym (then_zero _ _ (sym c.in_ok-test_legs.ensures)).0)
 
 pub returns : goal.returns
-returns c = goes_on _ _ _ _ c.in-Accepted.is c.test_run-counted.ensures
-    (goes_on _ _ _ _ c.in-Accepted-legged.is c.test-legged.ensures c.test.ensures)
+returns c = goes_on _ (triangle_refusal c.args.places c.args.table.now) _ c.in_ok-test_legs.ensures c.test.ensures
+    ∙ then_assoc (run_refusal c.args.places (length c.args.table.now)) (legs_refusal c.args.table.now) _

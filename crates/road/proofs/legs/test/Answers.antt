@@ -1,21 +1,20 @@
 -- `road::legs::test` meets its contract: the loop passes the legs whose metres are within the limit.
 -- Assumes nothing.
 use lib.ListN.{length}
-use Rattle.base.proofs.Numbers.{turns, stops_below}
+use Rattle.base.proofs.Numbers.{up, turns, stops_below}
 use Rattle.base.proofs.Tests.{begun, ended}
 use Rattle.road.proofs.legs.test.Invariants.{rule}
 use Rattle.road.proofs.legs.test.Goals as goal
 
-pub loop-i-init : goal.loop-i-init
-loop-i-init c = begun _ _
+pub loop-metres-init : goal.loop-metres-init
+loop-metres-init c = begun _ _
 
-pub returns-in_default : goal.returns-in_default
-returns-in_default c = stops_below _ c.in_default.field-0 c.in_default.is (length c.args.table.now) c.loop-i.i 4 (rule c.args.table.now) c.test_metres-leg.ensures
-    c.loop-i-test.true
+pub returns-in_err-test_metres : goal.returns-in_err-test_metres
+returns-in_err-test_metres c = up _ _ _ c.from_residual.ensures.1
+    (stops_below _ (length c.args.table.now) c.loop-metres.metres-index 4 (rule c.args.table.now) c.in_err-test_metres.ensures c.loop-metres-test.true)
 
-pub loop-i-preserved : goal.loop-i-preserved
-loop-i-preserved c = turns _ _ c.loop-i.i 3 _ c.in-Accepted.is c.test_metres-leg.ensures
-    c.loop-i-test.true c.loop-i.invariant
+pub loop-metres-preserved : goal.loop-metres-preserved
+loop-metres-preserved c = turns _ c.loop-metres.metres-index 3 _ c.in_ok-test_metres.ensures c.loop-metres-test.true c.loop-metres.invariant
 
 pub returns : goal.returns
-returns c = rw (ended _ _ c.loop-i.i c.loop-i.invariant c.loop-i-test.false)
+returns c = rw (ended _ _ c.loop-metres.metres-index c.loop-metres.invariant c.loop-metres-test.false)

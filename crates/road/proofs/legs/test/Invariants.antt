@@ -11,8 +11,5 @@ use Rattle.road.proofs.legs.test.Given as goal
 abbrev pub rule : Table → ℕ → Bool
 rule table = λ i. metres_rule (get_or table i 0)
 
-abbrev pub invariant-loop-i : goal.invariant-loop-i
-invariant-loop-i l = Passed (length l.table) (rule l.table) l.i
-
-abbrev pub decreases-loop-i : goal.decreases-loop-i
-decreases-loop-i l = length l.table - l.i
+abbrev pub invariant-loop-metres : goal.invariant-loop-metres
+invariant-loop-metres l = Passed (length l.table) (rule l.table) l.metres-index

@@ -15,11 +15,11 @@ ended n i P kept most least all = sym (subst (λ (k : ℕ). all_below k P ≡ ke
 
 pub loop-u-init : goal.loop-u-init
 unfolding all_below
-loop-u-init c = (zero-le, refl)
+loop-u-init c = refl
 
 pub loop-u-preserved : goal.loop-u-preserved
 unfolding all_below
-loop-u-preserved c = (search rules, rw add-one (ap₂ ◌&&◌ c.loop-u.invariant.1 (sym c.sides_keep-kept.ensures)))
+loop-u-preserved c = rw add-one (ap₂ ◌&&◌ c.loop-u.invariant (sym c.sides_keep-kept.ensures))
 
 pub returns : goal.returns
-returns c = ended _ _ _ _ c.loop-u.invariant.0 c.loop-u-test.false c.loop-u.invariant.1
+returns c = ended _ _ _ _ c.loop-u.auto.u-end c.loop-u-test.false c.loop-u.invariant

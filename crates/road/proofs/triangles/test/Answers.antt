@@ -7,7 +7,7 @@ use mathlib.Core.Path.{◌≡◌, refl, sym, ap, ◌∙◌}
 use native.Mathlib.Omega.{arith}
 use Rattle.base.specs.Numbers.{unless}
 use Rattle.base.specs.Tests.{all_below}
-use Rattle.base.proofs.Numbers.{turns, stops_below}
+use Rattle.base.proofs.Numbers.{up, turns, stops_below}
 use Rattle.base.proofs.Tests.{begun, ended}
 use Rattle.road.specs.Table.{Table, metres_of, triangle_rule}
 use Rattle.road.specs.Triangles.{place_rule}
@@ -23,17 +23,16 @@ all_places n t = triangles_by_sides n (metres_of t) (λ u. metres_self t u u ref
 pub loop-w-init : goal.loop-w-init
 loop-w-init c = begun _ _
 
-pub test_place-place-requires : goal.test_place-place-requires
-test_place-place-requires c = (omega arith, omega (arith, legs_before _ _ c.loop-w-test.true, c.requires.1))
+pub test_place-requires : goal.test_place-requires
+test_place-requires c = (omega arith, omega (arith, legs_before _ _ c.loop-w-test.true, c.requires.1))
 
-pub returns-in_default : goal.returns-in_default
-returns-in_default c = stops_below _ c.in_default.field-0 c.in_default.is c.args.places c.loop-w.w 8 (place_rule (metres_of c.args.table.now)) c.test_place-place.ensures
-    c.loop-w-test.true
-    ∙ ap (λ (b : Bool). unless b 8) (all_places c.args.places c.args.table.now)
+pub returns-in_err-test_place : goal.returns-in_err-test_place
+returns-in_err-test_place c = up _ _ _ c.from_residual.ensures.1
+    (stops_below _ c.args.places c.loop-w.w 8 (place_rule (metres_of c.args.table.now)) c.in_err-test_place.ensures c.loop-w-test.true
+    ∙ ap (λ (b : Bool). unless b 8) (all_places c.args.places c.args.table.now))
 
 pub loop-w-preserved : goal.loop-w-preserved
-loop-w-preserved c = turns _ _ c.loop-w.w 7 _ c.in-Accepted.is c.test_place-place.ensures c.loop-w-test.true
-    c.loop-w.invariant
+loop-w-preserved c = turns _ c.loop-w.w 7 _ c.in_ok-test_place.ensures c.loop-w-test.true c.loop-w.invariant
 
 pub returns : goal.returns
 returns c = rw (sym (all_places c.args.places c.args.table.now) ∙ ended _ _ c.loop-w.w c.loop-w.invariant c.loop-w-test.false)
