@@ -167,5 +167,15 @@ exits (Err y) x h = ap Err h
 pub up : {A : Type 0} (r : Result A Refusal) (x : Refusal) (n : ℕ) → IsErrAnd r (λ y. y ≡ x) → refusal_number x ≡ n → number_of r ≡ n
 up r x n h e = ap number_of (exits r x h) ∙ e
 
+-- what is told of a `?` that hands up: the zeros that go with the number of the refusal
+pub told_up : {A B : Type 0} (told : Result A Refusal → B) (r : Result A Refusal) (x : Refusal) (n : ℕ) (values : B) (zeros : ℕ → B)
+    → IsErrAnd r (λ y. y ≡ x) → refusal_number x ≡ n → told (Err x) ≡ zeros (refusal_number x) → told r ≡ unless_refused n values zeros
+told_up told r x n values zeros h e z =
+    ap told (exits r x h) ∙ z ∙ ap zeros e ∙ zeros_told n values zeros (λ q. refused_number x (e ∙ q))
+
+-- what is told where no refusal applies: the values
+pub told_ok : {B : Type 0} (n : ℕ) (v values : B) (zeros : ℕ → B) → 0 ≡ n → v ≡ values → v ≡ unless_refused n values zeros
+told_ok n v values zeros e q = q ∙ ap (λ (k : ℕ). unless_refused k values zeros) e
+
 -- the laws by which a function that hands refusals up by `?` meets its contract
 pub ruleset handing = (up, goes_on, handed_up)

@@ -1,7 +1,8 @@
 -- What a commit gives, for every input: the book with a crane at a call, and its least.
-use Rattle.std.specs.Prelude.{ℕ, ◌+◌, ◌≤◌, List, [], ◌∷◌, ◌++◌, ◌≡◌, ltb, ℤ, pos, get_or, set}
+use Rattle.std.specs.Prelude.{ℕ, ◌+◌, ◌≤◌, List, [], ◌∷◌, ◌++◌, ◌≡◌, ltb, ℤ, pos, get_or, set, Result, Ok, Err}
 use Rattle.base.specs.Lists.{padded}
-use Rattle.base.specs.Numbers.{unless, ◌then◌, unless_refused, number_of}
+use Rattle.base.specs.declared.Refusal.{Refusal}
+use Rattle.base.specs.Numbers.{refusal_number, unless, ◌then◌, unless_refused}
 use Rattle.road.specs.Table.{Table, metres_of}
 use Rattle.dayfile.specs.Day.{most_cranes, most_calls}
 use Rattle.workfunction.specs.Choice.{moved, drive}
@@ -63,8 +64,10 @@ pub record Committed : Type 0 where
   pub least : ℕ
   pub book : Book
 
-abbrev pub committed : Commit → Committed
-committed r = record { number = number_of r.verdict; least = r.least; book = r.book }
+-- of a commit of a book: a refused one leaves the book as it was given
+abbrev pub committed : Book → Result Commit Refusal → Committed
+committed book (Ok c) = record { number = 0; least = c.least; book = c.book }
+committed book (Err r) = record { number = refusal_number r; least = 0; book = book }
 
 -- what a commit gives: paper 3, "a commit takes the place and a crane and returns the new book with its least". "Open are the plan
 -- and weights of the book after a served call": they are taken as they come. "A refused call returns the number, .. other results

@@ -1,6 +1,7 @@
 -- What the two costs of a book are, for every input.
-use Rattle.std.specs.Prelude.{ℕ}
-use Rattle.base.specs.Numbers.{unless_refused, number_of}
+use Rattle.std.specs.Prelude.{ℕ, Result, Ok, Err}
+use Rattle.base.specs.declared.Refusal.{Refusal}
+use Rattle.base.specs.Numbers.{refusal_number, unless_refused}
 use Rattle.road.specs.Table.{Table, metres_of}
 use Rattle.workfunction.specs.Movement.{work, floor}
 use Rattle.book.specs.declared.Book.{Book}
@@ -13,8 +14,9 @@ pub record TwoCosts : Type 0 where
   pub least : ℕ
   pub floor : ℕ
 
-abbrev pub two_costs : Costs → TwoCosts
-two_costs r = record { number = number_of r.verdict; least = r.least; floor = r.floor }
+abbrev pub two_costs : Result Costs Refusal → TwoCosts
+two_costs (Ok c) = record { number = 0; least = c.least; floor = c.floor }
+two_costs (Err r) = record { number = refusal_number r; least = 0; floor = 0 }
 
 -- "The costs of a book: 'least' is w(stands)"; paper 8: "The floor becomes w(starts)"
 unfoldable pub costs_of : Book → ℕ → Table → TwoCosts

@@ -1,6 +1,7 @@
 -- What a quote gives, for every input: of a call the crane, its metres and the least, and no book.
-use Rattle.std.specs.Prelude.{ℕ, ltb}
-use Rattle.base.specs.Numbers.{unless, ◌then◌, unless_refused, number_of}
+use Rattle.std.specs.Prelude.{ℕ, ltb, Result, Ok, Err}
+use Rattle.base.specs.declared.Refusal.{Refusal}
+use Rattle.base.specs.Numbers.{refusal_number, unless, ◌then◌, unless_refused}
 use Rattle.road.specs.Table.{Table, metres_of}
 use Rattle.dayfile.specs.Day.{most_calls}
 use Rattle.workfunction.specs.Serving.{Served, served}
@@ -25,12 +26,13 @@ pub record Quoted : Type 0 where
   pub number : ℕ
   pub figures : Served
 
-abbrev pub quoted : Quote → Quoted
-quoted r = record { number = number_of r.verdict; figures = record { crane = r.crane; metres = r.metres; least = r.least } }
-
 -- "other results 0"
 abbrev pub unserved : Served
 unserved = record { crane = 0; metres = 0; least = 0 }
+
+abbrev pub quoted : Result Quote Refusal → Quoted
+quoted (Ok q) = record { number = 0; figures = record { crane = q.crane; metres = q.metres; least = q.least } }
+quoted (Err r) = record { number = refusal_number r; figures = unserved }
 
 -- the figures of a call at r: "The crane chosen has the least w(C(s)) + d(s,r)", over the work function of the book; paper 3:
 -- "The choice promised by the work function is the quote's"

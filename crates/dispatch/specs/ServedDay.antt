@@ -1,7 +1,8 @@
 -- What a served day gives, for every input.
-use Rattle.std.specs.Prelude.{ℕ, List, [], get_or, replicate}
+use Rattle.std.specs.Prelude.{ℕ, List, [], get_or, replicate, Result, Ok, Err}
 use Rattle.base.specs.Lists.{padded}
-use Rattle.base.specs.Numbers.{unless_refused, number_of}
+use Rattle.base.specs.declared.Refusal.{Refusal}
+use Rattle.base.specs.Numbers.{refusal_number, unless_refused}
 use Rattle.road.specs.Table.{Table, metres_of}
 use Rattle.dayfile.specs.Day.{most_calls, day_starts, day_requests, day_refusal}
 use Rattle.dayfile.specs.declared.Day.{Day}
@@ -23,19 +24,6 @@ pub record DayFigures : Type 0 where
   pub driven : ℕ
   pub home : ℕ
   pub floor : ℕ
-
-abbrev pub day_figures : ServedDay → DayFigures
-day_figures r =
-    record {
-      number = number_of r.verdict;
-      calls = r.calls;
-      cranes = r.cranes;
-      metres = r.metres;
-      leasts = r.leasts;
-      driven = r.driven;
-      home = r.home;
-      floor = r.floor;
-    }
 
 -- the figures of call i
 abbrev pub nth : List Served → ℕ → Served
@@ -68,6 +56,20 @@ no_figures n =
       home = 0;
       floor = 0;
     }
+
+abbrev pub day_figures : Result ServedDay Refusal → DayFigures
+day_figures (Ok d) =
+    record {
+      number = 0;
+      calls = d.calls;
+      cranes = d.cranes;
+      metres = d.metres;
+      leasts = d.leasts;
+      driven = d.driven;
+      home = d.home;
+      floor = d.floor;
+    }
+day_figures (Err r) = no_figures (refusal_number r)
 
 module _ (day : Day) (t : Table) where
   -- paper 8: "the way home: the distance of the last stands from the starts"

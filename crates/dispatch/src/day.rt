@@ -1,35 +1,17 @@
-// A whole day: what is told of it, refused or served.
-ghost use Rattle.std.specs.Prelude.{◌≡◌};
-ghost use Rattle.base.specs.Numbers.{number_of};
+// A whole day: what is told of it.
+ghost use Rattle.std.specs.Prelude.{◌≡◌, Ok};
 ghost use Rattle.dayfile.specs.Day.{day_refusal};
 ghost use Rattle.book.specs.Book.{fresh_book};
-ghost use Rattle.dispatch.specs.ServedDay.{day_figures, no_figures, served_day};
+ghost use Rattle.dispatch.specs.ServedDay.{day_figures, served_day};
 
 use crate::{ServedDay, floor, home, legs, plan, serve, weights};
-use base::Verdict;
 use book::Book;
 use dayfile::Day;
-
-// A day that is refused.
-pub(crate) fn refused(verdict: Verdict) -> ServedDay
-    ensures { day_figures result ≡ no_figures (number_of verdict) }
-{
-    ServedDay {
-        verdict,
-        calls: 0,
-        cranes: [0; Book::CALLS],
-        metres: [0; Book::CALLS],
-        leasts: [0; Book::CALLS],
-        driven: 0,
-        home: 0,
-        floor: 0,
-    }
-}
 
 // A day that is accepted, from its fresh book.
 pub(crate) fn served(day: Day, fresh: Book, table: &[u32]) -> ServedDay
     requires { (day_refusal day table.now ≡ 0) × (fresh ≡ fresh_book day.cranes day.starts) }
-    ensures { day_figures result ≡ served_day day table.now }
+    ensures { day_figures (Ok result) ≡ served_day day table.now }
 {
     let cranes = fresh.cranes;
     let starts = fresh.starts;
@@ -64,7 +46,6 @@ pub(crate) fn served(day: Day, fresh: Book, table: &[u32]) -> ServedDay
     );
     let home = home::home(table, &stands[..cranes], &starts[..cranes], &mut costs[..]);
     ServedDay {
-        verdict: Verdict::Accepted,
         calls: day.calls,
         cranes: sent,
         metres,

@@ -31,50 +31,36 @@ ghost use Rattle.dispatch.specs.PlanFloor.{floor_told, plan_floor_of};
 ghost use Rattle.dispatch.specs.Quote.{quoted, quote_of};
 ghost use Rattle.dispatch.specs.ServedDay.{day_figures, served_day};
 
-use base::Verdict;
+use base::Refusal;
 use book::Book;
 use dayfile::Day;
 
-// The net cost of each crane for a call, by its number: what the least cost rises by, or falls by, if that crane is sent; 0 past the
-// cranes. Or the refusal and zeros.
-#[derive(Clone, Copy)]
-pub struct NetCosts {
-    pub verdict: Verdict,
-    pub nets: [i64; Book::CRANES],
-}
-
-// The price of a call: the crane that would be sent, the metres that it would drive and the least cost after it; or the refusal
-// and zeros.
+// The price of a call: the crane that would be sent, the metres that it would drive and the least cost after it.
 #[derive(Clone, Copy)]
 pub struct Quote {
-    pub verdict: Verdict,
     pub crane: usize,
     pub metres: u32,
     pub least: u64,
 }
 
-// What became of a crane that was to be sent to a call: the least cost after it and the new book; or the refusal, 0, and the
-// book as it was given.
+// What became of a crane that was sent to a call: the least cost after it and the new book.
 #[derive(Clone, Copy)]
 pub struct Commit {
-    pub verdict: Verdict,
     pub least: u64,
     pub book: Book,
 }
 
-// The two costs of a book; or the refusal and zeros.
+// The two costs of a book.
 #[derive(Clone, Copy)]
 pub struct Costs {
-    pub verdict: Verdict,
     pub least: u64,
     pub floor: u64,
 }
 
 // A day served from its fresh book: of each call the crane sent, the metres that it drives and the least cost after it; the sum
-// of the drives, the way home, and the floor. Or the refusal and zeros. Entries past the number of calls are 0.
+// of the drives, the way home, and the floor. Entries past the number of calls are 0.
 #[derive(Clone, Copy)]
 pub struct ServedDay {
-    pub verdict: Verdict,
     pub calls: usize,
     pub cranes: [u16; Book::CALLS],
     pub metres: [u32; Book::CALLS],
@@ -84,99 +70,74 @@ pub struct ServedDay {
     pub floor: u64,
 }
 
-// The least cost of all plans of a day that end at its starts; or the refusal and 0.
-#[derive(Clone, Copy)]
-pub struct PlanFloor {
-    pub verdict: Verdict,
-    pub floor: u64,
-}
-
 // The functions that answer. What they keep is the book, and no struct here.
 #[derive(Clone, Copy)]
 pub struct Dispatch {}
 
 impl Dispatch {
-    // The net costs by which a quote chooses; refused as a quote is.
-    pub fn net_costs(book: Book, places: usize, table: &[u32], place: u16) -> NetCosts
+    // The net costs by which a quote chooses; refused as a quote is. That of each crane stands at its number: what the least cost rises
+    // by, or falls by, if that crane is sent; 0 past the cranes.
+    pub fn net_costs(
+        book: Book,
+        places: usize,
+        table: &[u32],
+        place: u16,
+    ) -> Result<[i64; Book::CRANES], Refusal>
         ensures { net_list result ≡ nets_of book places table.now place }
     {
-        let verdict = quotes::test(book, places, table, place);
-        let Verdict::Accepted = verdict else {
-            return nets::refused(verdict);
-        };
-        nets::accepted(book, table, place)
+        quotes::test(book, places, table, place)?;
+        Ok(nets::accepted(book, table, place))
     }
 
     // The price of a call at a place: the book's test, then 5 for the place, then 7 for a full book.
-    pub fn quote(book: Book, places: usize, table: &[u32], place: u16) -> Quote
+    pub fn quote(book: Book, places: usize, table: &[u32], place: u16) -> Result<Quote, Refusal>
         ensures { quoted result ≡ quote_of book places table.now place }
     {
-        let verdict = quotes::test(book, places, table, place);
-        let Verdict::Accepted = verdict else {
-            return quotes::refused(verdict);
-        };
-        quotes::accepted(book, table, place)
+        quotes::test(book, places, table, place)?;
+        Ok(quotes::accepted(book, table, place))
     }
 
     // Sends a crane, the quoted one or another, to a call at a place: the book's test, then 5 for the place, then 12 for the
     // crane, then 7 for a full book. The new book's plan and weights are the only part of the result that document 01 leaves
-    // open: of them it holds that the book is sound and has 0 past its counts. All else is one equation, for every input.
-    pub fn commit(book: Book, places: usize, table: &[u32], place: u16, crane: usize) -> Commit
-        ensures { (committed result ≡ commit_of book places table.now place crane result.book.plan result.book.weights) × (commit_refusal book places table.now place crane ≡ 0 → Next result.book places table.now) }
+    // open: of them it holds that the book is sound and has 0 past its counts. All else is one equation, for every input. A
+    // refused commit leaves the book as it was given.
+    pub fn commit(
+        book: Book,
+        places: usize,
+        table: &[u32],
+        place: u16,
+        crane: usize,
+    ) -> Result<Commit, Refusal>
+        ensures { (committed book result ≡ commit_of book places table.now place crane (committed book result).book.plan (committed book result).book.weights) × (commit_refusal book places table.now place crane ≡ 0 → Next (committed book result).book places table.now) }
     {
-        let verdict = commits::test(book, places, table, place, crane);
-        let Verdict::Accepted = verdict else {
-            return commits::refused(verdict, book);
-        };
-        commits::accepted(book, table, place, crane)
+        commits::test(book, places, table, place, crane)?;
+        Ok(commits::accepted(book, table, place, crane))
     }
 
     // The two costs of a book: the least cost of all movements that end at the stands, and of all that end at the starts; the book's test.
-    pub fn costs(book: Book, places: usize, table: &[u32]) -> Costs
+    pub fn costs(book: Book, places: usize, table: &[u32]) -> Result<Costs, Refusal>
         ensures { two_costs result ≡ costs_of book places table.now }
     {
-        let tested = book.test(places, table);
-        let Verdict::Accepted = tested else {
-            return Costs {
-                verdict: tested,
-                least: 0,
-                floor: 0,
-            };
-        };
-        cost::accepted(book, table)
+        book.test(places, table)?;
+        Ok(cost::accepted(book, table))
     }
 
     // A whole day, its calls served in turn from the fresh book; the test of the day.
-    pub fn serve_day(day: Day, table: &[u32]) -> ServedDay
+    pub fn serve_day(day: Day, table: &[u32]) -> Result<ServedDay, Refusal>
         ensures { day_figures result ≡ served_day day table.now }
     {
-        let opening = Book::fresh(day, table);
-        let verdict = opening.verdict;
-        let Verdict::Accepted = verdict else {
-            return day::refused(verdict);
-        };
-        day::served(day, opening.book, table)
+        let book = Book::fresh(day, table)?;
+        Ok(day::served(day, book, table))
     }
 
     // The least cost of all plans that serve a day's calls and end at its starts. The table need not keep the triangle rule: the test of the
     // day by 3, 6, 7, 4 and 5, and not by 8. Over a table that keeps it, this is the floor of the day.
-    pub fn plan_floor(day: Day, table: &[u32]) -> PlanFloor
+    pub fn plan_floor(day: Day, table: &[u32]) -> Result<u64, Refusal>
         ensures { floor_told result ≡ plan_floor_of day table.now }
     {
-        let tested = day.test_placed(table);
-        let Verdict::Accepted = tested else {
-            return PlanFloor {
-                verdict: tested,
-                floor: 0,
-            };
-        };
+        day.test_placed(table)?;
         let starts = day.starts;
         let requests = day.requests;
-        let cranes = day.cranes;
-        let calls = day.calls;
-        PlanFloor {
-            verdict: Verdict::Accepted,
-            floor: floor::of_day(table, &starts[..cranes], &requests[..calls]),
-        }
+        Ok(floor::of_day(table, &starts[..day.cranes], &requests[..day.calls]))
     }
 }

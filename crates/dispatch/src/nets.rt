@@ -1,15 +1,12 @@
-// The net costs of a call: what the search tells of each crane, and the list that a caller is told, refused or not.
-ghost use Rattle.std.specs.Prelude.{◌++◌, ◌≡◌, ℕ, pos, ◌-ℤ◌, drop, replicate};
+// The net costs of a call: what the search tells of each crane, and the list that a caller is told.
+ghost use Rattle.std.specs.Prelude.{◌++◌, ◌≡◌, ℕ, pos, ◌-ℤ◌, drop, Ok};
 ghost use Rattle.base.specs.Lists.{up_to};
-ghost use Rattle.base.specs.Numbers.{number_of};
-ghost use Rattle.dayfile.specs.Day.{most_cranes};
 ghost use Rattle.dispatch.specs.Insertion.{QuoteGiven, BookNetted, LowerGiven};
 ghost use Rattle.dispatch.specs.NetCosts.{net_list, nets_by_crane};
 ghost use Rattle.dispatch.specs.Quote.{quote_refusal};
 ghost use Rattle.dispatch.specs.Search.{at, net_base};
 
-use crate::{NetCosts, insert, legs, search};
-use base::Verdict;
+use crate::{insert, legs, search};
 use book::Book;
 
 // Of each crane the net cost of freeing it for a call at `place`; and the table of the legs with the call in it.
@@ -53,28 +50,15 @@ fn lower(cranes: usize, nets: &[u64], list: &mut [i64])
     }
 }
 
-// Net costs that are refused.
-pub(crate) fn refused(verdict: Verdict) -> NetCosts
-    ensures { net_list result ≡ record { number = number_of verdict; nets = replicate most_cranes (pos 0) } }
-{
-    NetCosts {
-        verdict,
-        nets: [0; Book::CRANES],
-    }
-}
-
 // Net costs that are told.
-pub(crate) fn accepted(book: Book, table: &[u32], place: u16) -> NetCosts
+pub(crate) fn accepted(book: Book, table: &[u32], place: u16) -> [i64; Book::CRANES]
     requires { (n : ℕ) × (quote_refusal book n table.now place ≡ 0) }
-    ensures { (n : ℕ) → quote_refusal book n table.now place ≡ 0 → net_list result ≡ record { number = 0; nets = nets_by_crane book n table.now place } }
+    ensures { (n : ℕ) → quote_refusal book n table.now place ≡ 0 → net_list (Ok result) ≡ record { number = 0; nets = nets_by_crane book n table.now place } }
 {
     let mut costs = legs::zeros();
     let mut nets = [0; Book::CRANES];
     let mut list = [0; Book::CRANES];
     of_book(book, table, place, &mut nets[..], &mut costs[..]);
     lower(book.cranes, &nets[..], &mut list[..]);
-    NetCosts {
-        verdict: Verdict::Accepted,
-        nets: list,
-    }
+    list
 }

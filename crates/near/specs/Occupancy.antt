@@ -1,6 +1,7 @@
 -- Which places hold a crane, for every input: paper 9's second question, "stated over the stands of a sound book".
-use Rattle.std.specs.Prelude.{ℕ, Bool, not}
-use Rattle.base.specs.Numbers.{unless_refused, number_of}
+use Rattle.std.specs.Prelude.{ℕ, Bool, not, Result, Ok, Err}
+use Rattle.base.specs.declared.Refusal.{Refusal}
+use Rattle.base.specs.Numbers.{refusal_number, unless_refused}
 use Rattle.road.specs.Table.{Table}
 use Rattle.workfunction.specs.Movement.{contains}
 use Rattle.book.specs.declared.Book.{Book}
@@ -18,8 +19,9 @@ pub record HeldPlaces : Type 0 where
   pub held : ℕ
   pub free : ℕ
 
-abbrev pub held_places : Occupied → HeldPlaces
-held_places r = record { number = number_of r.verdict; held = r.held; free = r.free }
+abbrev pub held_places : Result Occupied Refusal → HeldPlaces
+held_places (Ok o) = record { number = 0; held = o.held; free = o.free }
+held_places (Err r) = record { number = refusal_number r; held = 0; free = 0 }
 
 -- "how many different places hold a crane, and the lowest place that holds none, or the number of places if all do"
 unfoldable pub occupancy_of : Book → ℕ → Table → HeldPlaces

@@ -11,22 +11,19 @@ ghost use Rattle.std.specs.Prelude.{◌≡◌};
 ghost use Rattle.near.specs.Near.{nearby, near_of};
 ghost use Rattle.near.specs.Occupancy.{held_places, occupancy_of};
 
-use base::{Refusal, Verdict};
+use base::Refusal;
 use book::Book;
 
-// How many cranes are within a distance, whose numbers stand at the front of the lent buffer, and the nearest of all cranes; or the
-// refusal and zeros.
+// How many cranes are within a distance, whose numbers stand at the front of the lent buffer, and the nearest of all cranes.
 #[derive(Clone, Copy)]
 pub struct Nearby {
-    pub verdict: Verdict,
     pub count: usize,
     pub nearest: usize,
 }
 
-// How many places hold a crane, and the lowest that holds none, which is the number of places where all do; or the refusal and zeros.
+// How many places hold a crane, and the lowest that holds none, which is the number of places where all do.
 #[derive(Clone, Copy)]
 pub struct Occupied {
-    pub verdict: Verdict,
     pub held: usize,
     pub free: usize,
 }
@@ -40,55 +37,35 @@ pub fn near(
     place: u16,
     distance: u32,
     out: &mut [u16],
-) -> Nearby
+) -> Result<Nearby, Refusal>
     ensures { nearby result out.new ≡ near_of book places table.now place distance out.old }
 {
-    let verdict = place::test(book, places, table, place);
-    let Verdict::Accepted = verdict else {
-        return Nearby {
-            verdict,
-            count: 0,
-            nearest: 0,
-        };
-    };
+    place::test(book, places, table, place)?;
     let cranes = book.cranes;
     let stands = book.stands;
     let metres = metres::of_stands(table, &stands[..cranes], place);
     let count = metres::within(&metres[..cranes], distance);
     if out.len() < count {
-        return Nearby {
-            verdict: Verdict::Refused(Refusal::Buffer),
-            count: 0,
-            nearest: 0,
-        };
+        return Err(Refusal::Buffer);
     }
     order::put(&metres[..cranes], count, out);
-    Nearby {
-        verdict: Verdict::Accepted,
+    Ok(Nearby {
         count,
         nearest: order::nth(&metres[..cranes], 0),
-    }
+    })
 }
 
 // How many different places hold a crane, and the lowest that holds none; the test of the book.
-pub fn occupancy(book: Book, places: usize, table: &[u32]) -> Occupied
+pub fn occupancy(book: Book, places: usize, table: &[u32]) -> Result<Occupied, Refusal>
     ensures { held_places result ≡ occupancy_of book places table.now }
 {
-    let tested = book.test(places, table);
-    let Verdict::Accepted = tested else {
-        return Occupied {
-            verdict: tested,
-            held: 0,
-            free: 0,
-        };
-    };
+    book.test(places, table)?;
     let cranes = book.cranes;
     let stands = book.stands;
     let mask = mask::of_places(&stands[..cranes]);
     let empty = !mask;
-    Occupied {
-        verdict: Verdict::Accepted,
+    Ok(Occupied {
         held: u64::count_ones(mask) as usize,
         free: u64::trailing_zeros(empty) as usize,
-    }
+    })
 }

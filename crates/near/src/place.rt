@@ -3,18 +3,15 @@ ghost use Rattle.std.specs.Prelude.{◌≡◌};
 ghost use Rattle.base.specs.Numbers.{number_of};
 ghost use Rattle.near.specs.Near.{near_refusal};
 
-use base::Verdict;
+use base::Refusal;
 use book::Book;
 use dayfile::Day;
 
 // The test of the book, then 5 for the place.
-pub(crate) fn test(book: Book, places: usize, table: &[u32], place: u16) -> Verdict
+pub(crate) fn test(book: Book, places: usize, table: &[u32], place: u16) -> Result<(), Refusal>
     ensures { number_of result ≡ near_refusal book places table.now place }
 {
-    let tested = book.test(places, table);
-    let Verdict::Accepted = tested else {
-        return tested;
-    };
+    book.test(places, table)?;
     let asked = [place];
     Day::test_stops(places, &asked[..])
 }

@@ -1,6 +1,7 @@
 -- Roads known only roughly, for every input: paper 11.
-use Rattle.std.specs.Prelude.{ℕ, ◌<◌, ◌≤◌, Bool, leb, length, get_or}
-use Rattle.base.specs.Numbers.{unless, ◌then◌, unless_refused, number_of}
+use Rattle.std.specs.Prelude.{ℕ, ◌<◌, ◌≤◌, Bool, leb, length, get_or, Result, Ok, Err}
+use Rattle.base.specs.declared.Refusal.{Refusal}
+use Rattle.base.specs.Numbers.{refusal_number, unless, ◌then◌, unless_refused}
 use Rattle.base.specs.Tests.{all_below}
 use Rattle.road.specs.Table.{Table, leg_count, metres_of, run_refusal, legs_refusal}
 use Rattle.dayfile.specs.declared.Day.{Day}
@@ -38,12 +39,13 @@ pub record TwoFloors : Type 0 where
   pub lower : ℕ
   pub upper : ℕ
 
-abbrev pub two_floors : RoughFloors → TwoFloors
-two_floors r = record { number = number_of r.verdict; lower = r.lower; upper = r.upper }
-
 -- a refusal's floors are 0
 abbrev pub no_floors : ℕ → TwoFloors
 no_floors m = record { number = m; lower = 0; upper = 0 }
+
+abbrev pub two_floors : Result RoughFloors Refusal → TwoFloors
+two_floors (Ok f) = record { number = 0; lower = f.lower; upper = f.upper }
+two_floors (Err r) = no_floors (refusal_number r)
 
 -- "a lower and an upper floor, each the least cost of a plan that ends at the starts under that table"
 unfoldable pub rough_of : Day → Table → Table → TwoFloors

@@ -4,38 +4,25 @@ ghost use Rattle.base.specs.Numbers.{number_of};
 ghost use Rattle.rough.specs.Rough.{two_counts_refusal, rough_refusal};
 
 use crate::{bounds, figures};
-use base::Verdict;
+use base::Refusal;
 use dayfile::Day;
 use road::Road;
 
 // 3 for the places and the length of each table, then 6, then 7.
-fn counts(day: Day, lower: usize, upper: usize) -> Verdict
+fn counts(day: Day, lower: usize, upper: usize) -> Result<(), Refusal>
     ensures { number_of result ≡ two_counts_refusal day lower upper }
 {
-    let counted = Road::test_run(day.places, lower);
-    let Verdict::Accepted = counted else {
-        return counted;
-    };
+    Road::test_run(day.places, lower)?;
     Day::test_counts(day.places, upper, day.cranes, day.calls)
 }
 
 // The whole test. The day's own test over the upper table comes last: what it has left to refuse is a place, by 5.
-pub(crate) fn test(day: Day, lower: &[u32], upper: &[u32]) -> Verdict
+pub(crate) fn test(day: Day, lower: &[u32], upper: &[u32]) -> Result<(), Refusal>
     ensures { number_of result ≡ rough_refusal day lower.now upper.now }
 {
-    let counted = counts(day, lower.len(), upper.len());
-    let Verdict::Accepted = counted else {
-        return counted;
-    };
-    let figured = figures::test(day.places, lower);
-    let Verdict::Accepted = figured else {
-        return figured;
-    };
-    let figured = figures::test(day.places, upper);
-    let Verdict::Accepted = figured else {
-        return figured;
-    };
-    let bounded = bounds::test(lower, upper);
-    let placed = day.test_placed(upper);
-    bounded.then(placed)
+    counts(day, lower.len(), upper.len())?;
+    figures::test(day.places, lower)?;
+    figures::test(day.places, upper)?;
+    bounds::test(lower, upper)?;
+    day.test_placed(upper)
 }

@@ -8,8 +8,8 @@ ghost use Rattle.std.specs.Prelude.{◌≡◌};
 ghost use Rattle.dayfile.specs.File.{written};
 ghost use Rattle.sheet.specs.Sheet.{sheet_of};
 
-use base::{Refusal, Verdict};
-use dayfile::{Day, Written};
+use base::Refusal;
+use dayfile::Day;
 use dispatch::Dispatch;
 
 // The bytes of a row.
@@ -17,21 +17,14 @@ pub const ROW: usize = 28;
 
 // The sheet of a day, its calls served from a fresh book, into the front of a lent buffer; the test of the day, then 11 where the buffer
 // is too short.
-pub fn write(day: Day, table: &[u32], out: &mut [u8]) -> Written
+pub fn write(day: Day, table: &[u32], out: &mut [u8]) -> Result<usize, Refusal>
     ensures { written result out.new ≡ sheet_of day table.now out.old }
 {
-    let served = Dispatch::serve_day(day, table);
-    let verdict = served.verdict;
-    let Verdict::Accepted = verdict else {
-        return Written { verdict, length: 0 };
-    };
+    let served = Dispatch::serve_day(day, table)?;
     let calls = served.calls;
     let length = ROW * calls;
     if out.len() < length {
-        return Written {
-            verdict: Verdict::Refused(Refusal::Buffer),
-            length: 0,
-        };
+        return Err(Refusal::Buffer);
     }
     let requests = day.requests;
     let cranes = served.cranes;
@@ -44,8 +37,5 @@ pub fn write(day: Day, table: &[u32], out: &mut [u8]) -> Written
         &leasts[..],
         out,
     );
-    Written {
-        verdict: Verdict::Accepted,
-        length,
-    }
+    Ok(length)
 }
