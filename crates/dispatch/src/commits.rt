@@ -9,6 +9,7 @@ use base::Refusal;
 use book::Book;
 
 // The test of the book, then 5 for the place, then 12 for the crane, then 7 for a full book.
+#[tactic(auto, using(base::proofs::Numbers::handing))]
 pub(crate) fn test(
     book: Book,
     places: usize,

@@ -8,6 +8,7 @@ use base::Refusal;
 use book::Book;
 
 // The test of the book, then 5 for the place, then 7 for a full book.
+#[tactic(auto, using(base::proofs::Numbers::handing))]
 pub(crate) fn test(book: Book, places: usize, table: &[u32], place: u16) -> Result<(), Refusal>
     ensures { number_of result ≡ quote_refusal book places table.now place }
 {

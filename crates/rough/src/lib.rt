@@ -3,7 +3,6 @@
 #![tactic(auto)]
 
 mod bounds;
-mod figures;
 mod tests;
 
 ghost use Rattle.std.specs.Prelude.{◌≡◌};

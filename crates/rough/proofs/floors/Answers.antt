@@ -1,24 +1,21 @@
 -- `rough::floors` meets its contract: a refusal is handed up with zeros; once all is tested neither least plan is refused, and the two are the
 -- floors. Assumes nothing.
 use Prim.Native.Nat.{ℕ}
-use mathlib.Core.Path.{◌≡◌, ◌∙◌}
-use Rattle.base.proofs.Numbers.{zeros_told, accepts, refused_number}
+use mathlib.Core.Path.{◌≡◌, refl, sym, ap, ◌∙◌}
+use Rattle.std.specs.Prelude.{Err}
+use Rattle.base.specs.declared.Refusal.{Refusal}
+use Rattle.base.proofs.Numbers.{refused_number, told_up}
 use Rattle.road.specs.Table.{Table}
 use Rattle.dayfile.specs.declared.Day.{Day}
 use Rattle.dayfile.specs.Day.{placed_refusal}
 use Rattle.dayfile.proofs.Limits.{placed_accepted}
-use Rattle.dispatch.specs.PlanFloor.{FloorTold, plan_floor_of}
+use Rattle.dispatch.specs.PlanFloor.{FloorTold, floor_told, plan_floor_of}
 use Rattle.dispatch.proofs.Promise.{plan_floor_is}
-use Rattle.rough.specs.Rough.{rough_refusal, TwoFloors, no_floors, rough_of}
+use Rattle.rough.specs.Rough.{rough_refusal, TwoFloors, two_floors, rough_of}
 use Rattle.rough.proofs.tests.Laws.{rough_tested}
 use Rattle.rough.proofs.floors.Goals as goal
-use Rattle.rough.proofs.floors.Goals.{In-Accepted}
 
 module _ (day : Day) (lower upper : Table) where
-  handed_up : {told : TwoFloors} (n : ℕ) → told ≡ no_floors n → n ≡ rough_refusal day lower upper → (n ≡ 0 → ⊥) → told ≡ rough_of day lower upper
-  unfolding rough_of
-  handed_up n e same h = e ∙ rw (← same) (zeros_told n _ no_floors h)
-
   module _ (accepted : rough_refusal day lower upper ≡ 0) where
     -- the day passes its own tests before 8 over either table
     low_accepted : placed_refusal day lower ≡ 0
@@ -27,27 +24,24 @@ module _ (day : Day) (lower upper : Table) where
     high_accepted : placed_refusal day upper ≡ 0
     high_accepted = placed_accepted day upper (rough_tested day lower upper accepted).high
 
-    told : {low high : FloorTold} → low ≡ plan_floor_of day lower → high ≡ plan_floor_of day upper
+    two_told : {low high : FloorTold} → low ≡ plan_floor_of day lower → high ≡ plan_floor_of day upper
         → ◌≡◌ {A = TwoFloors} (record { number = 0; lower = low.floor; upper = high.floor }) (rough_of day lower upper)
     unfolding rough_of
-    told e f = rw (e, f, plan_floor_is day lower low_accepted, plan_floor_is day upper high_accepted, accepted)
+    two_told e f = rw (e, f, plan_floor_is day lower low_accepted, plan_floor_is day upper high_accepted, accepted)
 
 -- so its least plan is not refused
-not_refused : (day : Day) (t : Table) {told : FloorTold} → placed_refusal day t ≡ 0 → told ≡ plan_floor_of day t → told.number ≡ 0
-not_refused day t accepted e = rw (e, plan_floor_is day t accepted)
+not_refused : (day : Day) (t : Table) (x : Refusal) → placed_refusal day t ≡ 0 → floor_told (Err x) ≡ plan_floor_of day t → ⊥
+not_refused day t x accepted e = refused_number x (ap (λ (f : FloorTold). f.number) e ∙ rw (plan_floor_is day t accepted))
 
--- what the tests tell once they accepted
-tested : (c : In-Accepted) → rough_refusal c.args.day c.args.lower.now c.args.upper.now ≡ 0
-tested c = accepts _ _ c.in-Accepted.is c.test-tested.ensures
+pub returns-in_err-test : goal.returns-in_err-test
+unfolding rough_of
+returns-in_err-test c = told_up two_floors _ _ _ _ _ c.from_residual.ensures.1 c.in_err-test.ensures refl
 
-pub returns-in_default : goal.returns-in_default
-returns-in_default c = handed_up _ _ _ _ c.refused.ensures c.test-tested.ensures (refused_number _ c.in_default.field-0 c.in_default.is)
+pub returns-in_err-lower : goal.returns-in_err-lower
+returns-in_err-lower c = absurd (not_refused _ _ _ (low_accepted _ _ _ (sym c.in_ok-test.ensures)) c.in_err-lower.ensures)
 
-pub returns-in_default-found : goal.returns-in_default-found
-returns-in_default-found c = absurd (refused_number _ c.in_default-found.field-0 c.in_default-found.is (not_refused _ _ (low_accepted _ _ _ (tested (goal.at.returns-in_default-found c).In-Accepted)) c.plan_floor-low.ensures))
-
-pub returns-in_default-found-2 : goal.returns-in_default-found-2
-returns-in_default-found-2 c = absurd (refused_number _ c.in_default-found-2.field-0 c.in_default-found-2.is (not_refused _ _ (high_accepted _ _ _ (tested (goal.at.returns-in_default-found-2 c).In-Accepted)) c.plan_floor-high.ensures))
+pub returns-in_err-upper : goal.returns-in_err-upper
+returns-in_err-upper c = absurd (not_refused _ _ _ (high_accepted _ _ _ (sym c.in_ok-test.ensures)) c.in_err-upper.ensures)
 
 pub returns : goal.returns
-returns c = told _ _ _ (tested (goal.at.returns c).In-Accepted) c.plan_floor-low.ensures c.plan_floor-high.ensures
+returns c = two_told _ _ _ (sym c.in_ok-test.ensures) c.in_ok-lower.ensures c.in_ok-upper.ensures

@@ -1,31 +1,17 @@
--- `dispatch::Dispatch::quote` meets its contract: a refusal is handed up with zeros, else the call is quoted. Assumes nothing.
-use Prim.Native.Nat.{ℕ}
-use mathlib.Core.Path.{◌≡◌, ◌∙◌}
-use Rattle.base.proofs.Numbers.{zeros_told, accepts, refused_number}
-use Rattle.road.specs.Table.{Table}
-use Rattle.book.specs.declared.Book.{Book}
-use Rattle.dispatch.specs.Quote.{quote_refusal, Quoted, unserved, figures_of, quote_of}
+-- `dispatch::Dispatch::quote` meets its contract: a refusal is handed up with zeros, else the call is quoted.
+-- Assumes nothing.
+use mathlib.Core.Path.{refl, sym}
+use Rattle.base.proofs.Numbers.{told_up, told_ok}
+use Rattle.dispatch.specs.Quote.{quoted, quote_of}
 use Rattle.dispatch.proofs.Dispatch.quote.Goals as goal
-use Rattle.dispatch.proofs.Dispatch.quote.Goals.{In-Accepted}
 
-module _ (book : Book) (n : ℕ) (t : Table) (r : ℕ) where
-  refused : (m : ℕ) → m ≡ quote_refusal book n t r → (m ≡ 0 → ⊥) → ◌≡◌ {A = Quoted} (record { number = m; figures = unserved }) (quote_of book n t r)
-  unfolding quote_of
-  refused m e h = rw (← e) (zeros_told m _ (λ x. record { number = x; figures = unserved }) h)
-
-  accepted : quote_refusal book n t r ≡ 0 → ◌≡◌ {A = Quoted} (record { number = 0; figures = figures_of book n t r }) (quote_of book n t r)
-  unfolding quote_of
-  accepted h = rw h
-
--- what the test tells once it accepted
-tested : (c : In-Accepted) → quote_refusal c.args.book c.args.places c.args.table.now c.args.place ≡ 0
-tested c = accepts _ _ c.in-Accepted.is c.test-verdict.ensures
-
-pub returns-in_default : goal.returns-in_default
-returns-in_default c = c.refused.ensures ∙ refused _ _ _ _ _ c.test-verdict.ensures (refused_number _ c.in_default.field-0 c.in_default.is)
+pub returns-in_err-test : goal.returns-in_err-test
+unfolding quote_of
+returns-in_err-test c = told_up quoted _ _ _ _ _ c.from_residual.ensures.1 c.in_err-test.ensures refl
 
 pub accepted-requires : goal.accepted-requires
-accepted-requires c = (_, tested (goal.at.accepted-requires c).In-Accepted)
+accepted-requires c = (_, sym c.in_ok-test.ensures)
 
 pub returns : goal.returns
-returns c = let h = tested (goal.at.returns c).In-Accepted in c.accepted.ensures _ h ∙ accepted _ _ _ _ h
+unfolding quote_of
+returns c = told_ok _ _ _ _ c.in_ok-test.ensures (c.accepted.ensures _ (sym c.in_ok-test.ensures))

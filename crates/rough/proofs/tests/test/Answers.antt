@@ -3,59 +3,52 @@ use Prim.Native.Nat.{ℕ}
 use mathlib.Core.Path.{◌≡◌, sym, ◌∙◌}
 use lib.ListN.{length}
 use Rattle.base.specs.Numbers.{◌then◌}
-use Rattle.base.proofs.Numbers.{accepts, holds, asked_again, goes_on, handed_up, same_tests}
-use Rattle.road.specs.Table.{legs_refusal}
+use Rattle.base.proofs.Numbers.{up, holds, asked_again, goes_on, handed_up}
+use Rattle.road.specs.Table.{Table, run_refusal}
+use Rattle.dayfile.specs.declared.Day.{Day}
 use Rattle.dayfile.proofs.Limits.{CountsTested, run_tested}
 use Rattle.rough.specs.Rough.{two_counts_refusal, rough_refusal}
 use Rattle.rough.proofs.tests.Laws.{two_counts, places_left}
 use Rattle.rough.proofs.tests.test.Goals as goal
-use Rattle.rough.proofs.tests.test.Goals.{In-Accepted, In-Accepted-figured, In-Accepted-figured-2}
 
 -- what the counts tell of either table, once they are accepted
-counts_so : (c : In-Accepted) → CountsTested c.args.day.places (length c.args.lower.now) c.args.day.cranes c.args.day.calls
-    × CountsTested c.args.day.places (length c.args.upper.now) c.args.day.cranes c.args.day.calls
-counts_so c = two_counts _ _ _ (accepts _ _ c.in-Accepted.is c.counts-counted.ensures)
+module _ {day : Day} {lower upper : ℕ} (h : 0 ≡ two_counts_refusal day lower upper) where
+  counted : CountsTested day.places lower day.cranes day.calls × CountsTested day.places upper day.cranes day.calls
+  counted = two_counts day lower upper (sym h)
 
--- where the tests so far accepted, the next decides
-counts : (c : In-Accepted) (t n : ℕ) → n ≡ t → n ≡ (two_counts_refusal c.args.day (length c.args.lower.now) (length c.args.upper.now) then t)
-counts c t n q = goes_on _ _ t n c.in-Accepted.is c.counts-counted.ensures q
+  -- the run of either table, asked again, leaves its legs to decide
+  lows : (s t : ℕ) → s ≡ (run_refusal day.places lower then t) → s ≡ t
+  lows s t e = asked_again _ t s (run_tested _ _ _ _ counted.0) e
 
--- the metres of the lower table are within the limit
-lows : (c : In-Accepted-figured) (t n : ℕ) → n ≡ t → n ≡ (legs_refusal c.args.lower.now then t)
-lows c t n q =
-    let counts_so_here : CountsTested c.args.day.places (length c.args.lower.now) c.args.day.cranes c.args.day.calls
-    × CountsTested c.args.day.places (length c.args.upper.now) c.args.day.cranes c.args.day.calls = two_counts _ _ _ (accepts _ _ c.in-Accepted.is c.counts-counted.ensures)
-    in
-    goes_on _ _ t n c.in-Accepted-figured.is
-    (asked_again _ _ _ (run_tested _ _ _ _ (counts_so_here).0) c.test-figured.ensures) q
+  highs : (s t : ℕ) → s ≡ (run_refusal day.places upper then t) → s ≡ t
+  highs s t e = asked_again _ t s (run_tested _ _ _ _ counted.1) e
 
--- those of the upper table
-highs : (c : In-Accepted-figured-2) (t n : ℕ) → n ≡ t → n ≡ (legs_refusal c.args.upper.now then t)
-highs c t n q =
-    let counts_so_here : CountsTested c.args.day.places (length c.args.lower.now) c.args.day.cranes c.args.day.calls
-    × CountsTested c.args.day.places (length c.args.upper.now) c.args.day.cranes c.args.day.calls = two_counts _ _ _ (accepts _ _ c.in-Accepted.is c.counts-counted.ensures)
-    in
-    goes_on _ _ t n c.in-Accepted-figured-2.is
-    (asked_again _ _ _ (run_tested _ _ _ _ (counts_so_here).1) c.test-figured-2.ensures) q
-
-pub returns-in_default : goal.returns-in_default
+pub returns-in_err-counts : goal.returns-in_err-counts
 unfolding rough_refusal
-returns-in_default c = handed_up _ c.in_default.field-0 c.in_default.is _ _ c.counts-counted.ensures
+returns-in_err-counts c = up _ _ _ c.from_residual.ensures.1 (handed_up _ _ _ c.in_err-counts.ensures)
 
-pub returns-in_default-figured : goal.returns-in_default-figured
+pub returns-in_err-test_legs : goal.returns-in_err-test_legs
 unfolding rough_refusal
-returns-in_default-figured c = counts (goal.at.returns-in_default-figured c).In-Accepted _ _ (handed_up _ c.in_default-figured.field-0 c.in_default-figured.is _ _ (asked_again _ _ _ (run_tested _ _ _ _ (counts_so (goal.at.returns-in_default-figured c).In-Accepted).0) c.test-figured.ensures))
+returns-in_err-test_legs c = goes_on _ _ _ c.in_ok-counts.ensures
+    (up _ _ _ c.from_residual-in_err-test_legs.ensures.1 (handed_up _ _ _ (lows c.in_ok-counts.ensures _ _ c.in_err-test_legs.ensures)))
 
-pub returns-in_default-figured-2 : goal.returns-in_default-figured-2
+pub returns-in_err-test_legs-2 : goal.returns-in_err-test_legs-2
 unfolding rough_refusal
-returns-in_default-figured-2 c = counts (goal.at.returns-in_default-figured-2 c).In-Accepted _ _ (lows (goal.at.returns-in_default-figured-2 c).In-Accepted-figured _ _
-    (handed_up _ c.in_default-figured-2.field-0 c.in_default-figured-2.is _ _ (asked_again _ _ _ (run_tested _ _ _ _ (counts_so (goal.at.returns-in_default-figured-2 c).In-Accepted).1) c.test-figured-2.ensures)))
+returns-in_err-test_legs-2 c = goes_on _ _ _ c.in_ok-counts.ensures (goes_on _ _ _ (lows c.in_ok-counts.ensures _ _ c.in_ok-test_legs.ensures)
+    (up _ _ _ c.from_residual-in_err-test_legs-2.ensures.1 (handed_up _ _ _ (highs c.in_ok-counts.ensures _ _ c.in_err-test_legs-2.ensures))))
 
-pub test-bounded-requires : goal.test-bounded-requires
-test-bounded-requires c = let both = counts_so (goal.at.test-bounded-requires c).In-Accepted in both.0.legs ∙ sym both.1.legs
+pub test-requires : goal.test-requires
+test-requires c = let both = counted c.in_ok-counts.ensures in both.0.legs ∙ sym both.1.legs
+
+pub returns-in_err-test : goal.returns-in_err-test
+unfolding rough_refusal
+returns-in_err-test c = goes_on _ _ _ c.in_ok-counts.ensures (goes_on _ _ _ (lows c.in_ok-counts.ensures _ _ c.in_ok-test_legs.ensures)
+    (goes_on _ _ _ (highs c.in_ok-counts.ensures _ _ c.in_ok-test_legs-2.ensures)
+    (up _ _ _ c.from_residual-in_err-test.ensures.1 (handed_up _ _ _ c.in_err-test.ensures))))
 
 pub returns : goal.returns
 unfolding rough_refusal
-returns c = let legs = holds _ _ 3 c.in-Accepted-figured-2.is (asked_again _ _ _ (run_tested _ _ _ _ (counts_so (goal.at.returns c).In-Accepted).1) c.test-figured-2.ensures) in
-    counts (goal.at.returns c).In-Accepted _ _ (lows (goal.at.returns c).In-Accepted-figured _ _ (highs (goal.at.returns c).In-Accepted-figured-2 _ _
-    (c.then.ensures ∙ same_tests _ _ _ _ c.test-bounded.ensures (λ _. c.test_placed-placed.ensures ∙ places_left _ _ (counts_so (goal.at.returns c).In-Accepted).1 legs))))
+returns c = let legs = holds _ 3 (highs c.in_ok-counts.ensures _ _ c.in_ok-test_legs-2.ensures) in
+    goes_on _ _ _ c.in_ok-counts.ensures (goes_on _ _ _ (lows c.in_ok-counts.ensures _ _ c.in_ok-test_legs.ensures)
+    (goes_on _ _ _ (highs c.in_ok-counts.ensures _ _ c.in_ok-test_legs-2.ensures)
+    (goes_on _ _ _ c.in_ok-test.ensures (c.test_placed.ensures ∙ places_left _ _ (counted c.in_ok-counts.ensures).1 legs))))
