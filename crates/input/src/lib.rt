@@ -1,7 +1,8 @@
 // Reading all of a reader, as standard input, for the programs. Stands on std, and on `base` for its contracts.
 #![tactic(auto)]
 
-ghost use Rattle.std.specs.Prelude.{◌≡◌, length, IfOk};
+ghost use Rattle.std.specs.Prelude.{◌≡◌, ◌<◌, length, take, IfOk};
+ghost use Rattle.std.specs.Io.KnownBytes.{Consumes, IsAtEnd};
 ghost use Rattle.base.specs.Counts.{IsPrefixLen};
 
 use std::io;
@@ -10,10 +11,13 @@ use std::io::{ErrorKind, Read};
 // How often one read is tried where a signal interrupts it each time. After that many it has failed, so that the program ends.
 const TRIES: usize = 1_000_000;
 
-// Reads into the front of the buffer until the buffer is full, the input has ended or a read fails: the number of bytes. Which bytes arrive
-// from standard input is open: the contract of its `read` says nothing of them.
+// Reads into the front of the buffer until the buffer is full, the input has ended or a read fails: the number of bytes. Of a reader whose
+// bytes are known these are the next ones, all of them where the buffer has room. Which bytes arrive from standard input is open: the
+// contract of its `read` says nothing of them.
 pub fn read_all<R: Read>(reader: &mut R, buffer: &mut [u8]) -> io::Result<usize>
     ensures count { IfOk result (λ count. IsPrefixLen count buffer.new) }
+    ensures bytes { IfOk result (λ count. Consumes (R.remaining reader.old) (R.remaining reader.new) (take count buffer.new)) }
+    ensures end { IfOk result (λ count. count < length buffer.new → IsAtEnd (R.remaining reader.new)) }
     ensures length { length buffer.new ≡ length buffer.old }
 {
     let mut done = 0;
@@ -30,7 +34,9 @@ pub fn read_all<R: Read>(reader: &mut R, buffer: &mut [u8]) -> io::Result<usize>
 // One read into the front of the buffer, tried again where it is interrupted: the number of bytes, 0 where the input has ended. std's
 // `read_exact` tries again too, but tells no count where the input ends, and its `read_to_end` allocates.
 fn read_some<R: Read>(reader: &mut R, buffer: &mut [u8]) -> io::Result<usize>
-    ensures { IfOk result (λ count. IsPrefixLen count buffer.new) }
+    ensures count { IfOk result (λ count. IsPrefixLen count buffer.new) }
+    ensures bytes { IfOk result (λ count. Consumes (R.remaining reader.old) (R.remaining reader.new) (take count buffer.new)) }
+    ensures end { IfOk result (λ count. count ≡ 0 → 0 < length buffer.new → IsAtEnd (R.remaining reader.new)) }
 {
     for _ in 0..TRIES {
         match reader.read(buffer) {
