@@ -2,14 +2,14 @@
 // `report` and `input`, and on std for reading and writing.
 #![tactic(auto)]
 
-ghost use Rattle.std.specs.Prelude.{◌≡◌, ◌<◌, ℕ, List, length, IfOk};
-ghost use Rattle.std.specs.Io.KnownBytes.{Consumes, IsAtEnd};
+ghost use Rattle.std.specs.Prelude.{◌≡◌, ℕ, List, OnOk, IsErrOf};
 ghost use Rattle.base.specs.Counts.{IsPrefixLen};
 ghost use Rattle.report.specs.Report.{printed};
+ghost use Rattle.programs.specs.Served.{Served};
 
 use dayfile::Day;
 use report::Printed;
-use std::io::Read;
+use std::io::{Read, Write};
 use std::{fmt, io};
 
 // One byte more than the longest file has, so that a longer input is seen to be too long; nothing past it is read.
@@ -45,29 +45,28 @@ impl fmt::Display for Failure {
     }
 }
 
-// Runs a program: its print of the file that the reader gives goes to standard output, or a line with its name and the failure to standard error.
+// Runs a program on the file that the reader gives: its print goes to standard output, a line of its name and the failure to standard error.
 pub fn run<P: Program>(reader: &mut impl Read, rt: &(impl Print + Eprint)) {
-    if let Err(failure) = serve::<P, _>(reader, rt) {
+    if let Err(failure) = serve::<P, _, _>(reader, &mut io::writer(rt)) {
         let name = P::NAME;
         let _ = eprintln!(rt; "{name}: {failure}");
     }
 }
 
-// Writes the print of the file that the reader gives. After a read that fails nothing is written: the figures of a day that is cut short would
-// be wrong without a sign.
-fn serve<P: Program, R: Read>(reader: &mut R, rt: &impl Print) -> Result<(), Failure> {
-    let printed = print_of::<P, R>(reader).map_err(|_| Failure::Read)?;
-    let length = printed.length;
-    rt.write_all(&printed.text[..length])
-        .map_err(|_| Failure::Write)
-}
-
-// The print of what the reader gives: of all its bytes, or of the first 27,457 where it has more.
-fn print_of<P: Program, R: Read>(reader: &mut R) -> io::Result<Printed>
-    ensures value { IfOk result (λ print. (file : List ℕ) × Consumes (R.remaining reader.old) (R.remaining reader.new) file × (length file < 27457 → IsAtEnd (R.remaining reader.new)) × (print ≡ printed (P.text file))) }
-    ensures prefix_len { IfOk result (λ print. IsPrefixLen print.length print.text) }
+// Writes the print of what the reader gives: of all its bytes, or of the first 27,457 where it has more. After a read that fails nothing is
+// written: the text of a day that is cut short would be wrong without a sign.
+fn serve<P: Program, R: Read, W: Write>(reader: &mut R, writer: &mut W) -> Result<(), Failure>
+    ensures written { OnOk result (Served P.text (R.remaining reader.old) (R.remaining reader.new) (W.contents writer.old) (W.contents writer.new)) }
+    ensures unread { IsErrOf result Failure.Read → writer.new ≡ writer.old }
 {
     let mut buffer = [0; INPUT];
-    let read = input::read_all(reader, &mut buffer)?;
-    Ok(P::print(&buffer[..read]))
+    let Ok(read) = input::read_all(reader, &mut buffer) else {
+        return Err(Failure::Read);
+    };
+    let printed = P::print(&buffer[..read]);
+    let length = printed.length;
+    match writer.write_all(&printed.text[..length]) {
+        Ok(()) => Ok(()),
+        Err(_) => Err(Failure::Write),
+    }
 }
