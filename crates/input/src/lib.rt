@@ -1,61 +1,48 @@
 // Reading all of a reader, as standard input, for the programs. Stands on std, and on `base` for its contracts.
 #![tactic(auto)]
 
-ghost use Rattle.std.specs.Prelude.{IfSome};
+ghost use Rattle.std.specs.Prelude.{◌≡◌, ◌<◌, length, take, IfOk};
+ghost use Rattle.std.specs.Io.KnownBytes.{Consumes, IsAtEnd};
 ghost use Rattle.base.specs.Counts.{IsPrefixLen};
 
+use std::io;
 use std::io::{ErrorKind, Read};
 
 // How often one read is tried where a signal interrupts it each time. After that many it has failed, so that the program ends.
 const TRIES: usize = 1_000_000;
 
-// What was read: how many bytes, and whether a read failed.
-#[derive(Clone, Copy)]
-pub struct Input {
-    pub length: usize,
-    pub failed: bool,
-}
-
-// Reads into the front of the buffer until the buffer is full, the input has ended or a read fails. Which bytes arrive from standard
-// input is open: the contract of its `read` says nothing of them.
-pub fn read_all<R: Read>(reader: &mut R, buffer: &mut [u8]) -> Input
-    ensures { IsPrefixLen result.length buffer.new }
+// Reads into the front of the buffer until the buffer is full, the input has ended or a read fails: the number of bytes. Of a reader whose
+// bytes are known these are the next ones, all of them where the buffer has room. Which bytes arrive from standard input is open: the
+// contract of its `read` says nothing of them.
+pub fn read_all<R: Read>(reader: &mut R, buffer: &mut [u8]) -> io::Result<usize>
+    ensures count { IfOk result (λ count. IsPrefixLen count buffer.new) }
+    ensures bytes { IfOk result (λ count. Consumes (R.remaining reader.old) (R.remaining reader.new) (take count buffer.new)) }
+    ensures end { IfOk result (λ count. count < length buffer.new → IsAtEnd (R.remaining reader.new)) }
+    ensures length { length buffer.new ≡ length buffer.old }
 {
     let mut done = 0;
     while done < buffer.len() {
-        let got = read_some(reader, &mut buffer[done..]);
-        let failed = got.is_none();
-        let count = got.unwrap_or(0);
+        let count = read_some(reader, &mut buffer[done..])?;
         if count == 0 {
-            return Input {
-                length: done,
-                failed,
-            };
+            break;
         }
         done += count;
     }
-    Input {
-        length: done,
-        failed: false,
-    }
+    Ok(done)
 }
 
-// One read into the front of the buffer, tried again where it is interrupted: the number of bytes, 0 where the input has ended,
-// none where the read fails.
-fn read_some<R: Read>(reader: &mut R, buffer: &mut [u8]) -> Option<usize>
-    ensures { IfSome result (λ count. IsPrefixLen count buffer.new) }
+// One read into the front of the buffer, tried again where it is interrupted: the number of bytes, 0 where the input has ended. std's
+// `read_exact` tries again too, but tells no count where the input ends, and its `read_to_end` allocates.
+fn read_some<R: Read>(reader: &mut R, buffer: &mut [u8]) -> io::Result<usize>
+    ensures count { IfOk result (λ count. IsPrefixLen count buffer.new) }
+    ensures bytes { IfOk result (λ count. Consumes (R.remaining reader.old) (R.remaining reader.new) (take count buffer.new)) }
+    ensures end { IfOk result (λ count. count ≡ 0 → 0 < length buffer.new → IsAtEnd (R.remaining reader.new)) }
 {
-    let mut tries = TRIES;
-    while 0 < tries {
+    for _ in 0..TRIES {
         match reader.read(buffer) {
-            Ok(count) => return Some(count),
-            Err(error) => {
-                if error.kind() != ErrorKind::Interrupted {
-                    return None;
-                }
-            }
+            Err(error) if error.kind() == ErrorKind::Interrupted => {}
+            outcome => return outcome,
         }
-        tries -= 1;
     }
-    None
+    Err(io::Error::from(ErrorKind::Interrupted))
 }

@@ -1,0 +1,72 @@
+// What the programs that read a day file share: the file read, its text written, and a failure told on standard error. Stands on `dayfile`,
+// `report` and `input`, and on std for reading and writing.
+#![tactic(auto)]
+
+ghost use Rattle.std.specs.Prelude.{◌≡◌, ℕ, List, OnOk, IsErrOf};
+ghost use Rattle.base.specs.Counts.{IsPrefixLen};
+ghost use Rattle.report.specs.Report.{printed};
+ghost use Rattle.programs.specs.Served.{Served};
+
+use dayfile::Day;
+use report::Printed;
+use std::io::{Read, Write};
+use std::{fmt, io};
+
+// One byte more than the longest file has, so that a longer input is seen to be too long; nothing past it is read.
+const INPUT: usize = Day::FILE_LENGTH + 1;
+
+// A program that reads a day file and writes a text made of it.
+pub trait Program {
+    // The text for the bytes of a file.
+    ghost text: { List ℕ → List ℕ };
+
+    // The name that begins its lines on standard error.
+    const NAME: &'static str;
+
+    // The print of a file.
+    fn print(file: &[u8]) -> Printed
+        ensures value { result ≡ printed (text file.now) }
+        ensures prefix_len { IsPrefixLen result.length result.text };
+}
+
+// What ended a program early.
+#[derive(Clone, Copy)]
+enum Failure {
+    Read,
+    Write,
+}
+
+impl fmt::Display for Failure {
+    fn fmt<W: fmt::Write>(&self, f: &mut fmt::Formatter<W>) -> fmt::Result {
+        match self {
+            Failure::Read => write!(f, "read failed"),
+            Failure::Write => write!(f, "write failed"),
+        }
+    }
+}
+
+// Runs a program on the file that the reader gives: its print goes to standard output, a line of its name and the failure to standard error.
+pub fn run<P: Program>(reader: &mut impl Read, rt: &(impl Print + Eprint)) {
+    if let Err(failure) = serve::<P, _, _>(reader, &mut io::writer(rt)) {
+        let name = P::NAME;
+        let _ = eprintln!(rt; "{name}: {failure}");
+    }
+}
+
+// Writes the print of what the reader gives: of all its bytes, or of the first 27,457 where it has more. After a read that fails nothing is
+// written: the text of a day that is cut short would be wrong without a sign.
+fn serve<P: Program, R: Read, W: Write>(reader: &mut R, writer: &mut W) -> Result<(), Failure>
+    ensures written { OnOk result (Served P.text (R.remaining reader.old) (R.remaining reader.new) (W.contents writer.old) (W.contents writer.new)) }
+    ensures unread { IsErrOf result Failure.Read → writer.new ≡ writer.old }
+{
+    let mut buffer = [0; INPUT];
+    let Ok(read) = input::read_all(reader, &mut buffer) else {
+        return Err(Failure::Read);
+    };
+    let printed = P::print(&buffer[..read]);
+    let length = printed.length;
+    match writer.write_all(&printed.text[..length]) {
+        Ok(()) => Ok(()),
+        Err(_) => Err(Failure::Write),
+    }
+}
