@@ -6,6 +6,7 @@ ghost use Rattle.report.specs.Report.{print_of};
 
 use programs::Program;
 use report::Printed;
+use std::io;
 
 // The program `desk`.
 struct Desk;
@@ -13,13 +14,13 @@ struct Desk;
 impl Program for Desk {
     ghost text = { print_of };
 
-    const NAME: &'static str = "desk";
-
     fn print(file: &[u8]) -> Printed {
         report::print(file)
     }
 }
 
 fn main(rt: HostRuntime) {
-    programs::run::<Desk>(&mut rt.stdin(), &rt);
+    if let Err(failure) = programs::serve::<Desk, _, _>(&mut rt.stdin(), &mut io::writer(&rt)) {
+        let _ = eprintln!(rt; "desk: {failure}");
+    }
 }

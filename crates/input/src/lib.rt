@@ -21,6 +21,7 @@ pub fn read_all<R: Read>(reader: &mut R, buffer: &mut [u8]) -> io::Result<usize>
     ensures length { length buffer.new ≡ length buffer.old }
 {
     let mut done = 0;
+    // The step is what was read, so no range counts the turns.
     while done < buffer.len() {
         let count = read_some(reader, &mut buffer[done..])?;
         if count == 0 {

@@ -9,8 +9,8 @@ ghost use Rattle.programs.specs.Served.{Served};
 
 use dayfile::Day;
 use report::Printed;
+use std::fmt;
 use std::io::{Read, Write};
-use std::{fmt, io};
 
 // One byte more than the longest file has, so that a longer input is seen to be too long; nothing past it is read.
 const INPUT: usize = Day::FILE_LENGTH + 1;
@@ -20,9 +20,6 @@ pub trait Program {
     // The text for the bytes of a file.
     ghost text: { List ℕ → List ℕ };
 
-    // The name that begins its lines on standard error.
-    const NAME: &'static str;
-
     // The print of a file.
     fn print(file: &[u8]) -> Printed
         ensures value { result ≡ printed (text file.now) }
@@ -30,8 +27,8 @@ pub trait Program {
 }
 
 // What ended a program early.
-#[derive(Clone, Copy)]
-enum Failure {
+#[derive(Clone, Copy, Debug, PartialEq, Eq)]
+pub enum Failure {
     Read,
     Write,
 }
@@ -45,17 +42,9 @@ impl fmt::Display for Failure {
     }
 }
 
-// Runs a program on the file that the reader gives: its print goes to standard output, a line of its name and the failure to standard error.
-pub fn run<P: Program>(reader: &mut impl Read, rt: &(impl Print + Eprint)) {
-    if let Err(failure) = serve::<P, _, _>(reader, &mut io::writer(rt)) {
-        let name = P::NAME;
-        let _ = eprintln!(rt; "{name}: {failure}");
-    }
-}
-
 // Writes the print of what the reader gives: of all its bytes, or of the first 27,457 where it has more. After a read that fails nothing is
 // written: the text of a day that is cut short would be wrong without a sign.
-fn serve<P: Program, R: Read, W: Write>(reader: &mut R, writer: &mut W) -> Result<(), Failure>
+pub fn serve<P: Program, R: Read, W: Write>(reader: &mut R, writer: &mut W) -> Result<(), Failure>
     ensures written { OnOk result (Served P.text (R.remaining reader.old) (R.remaining reader.new) (W.contents writer.old) (W.contents writer.new)) }
     ensures unread { IsErrOf result Failure.Read → writer.new ≡ writer.old }
 {

@@ -6,6 +6,7 @@ ghost use Rattle.report.specs.Report.{sheet_print_of};
 
 use programs::Program;
 use report::Printed;
+use std::io;
 
 // The program `wallsheet`.
 struct Wallsheet;
@@ -13,13 +14,16 @@ struct Wallsheet;
 impl Program for Wallsheet {
     ghost text = { sheet_print_of };
 
-    const NAME: &'static str = "wallsheet";
-
     fn print(file: &[u8]) -> Printed {
         report::print_sheet(file)
     }
 }
 
 fn main(rt: HostRuntime) {
-    programs::run::<Wallsheet>(&mut rt.stdin(), &rt);
+    if let Err(failure) = programs::serve::<Wallsheet, _, _>(
+        &mut rt.stdin(),
+        &mut io::writer(&rt),
+    ) {
+        let _ = eprintln!(rt; "wallsheet: {failure}");
+    }
 }
