@@ -10,7 +10,7 @@ use lib.IntN.{ℤ, pos, negsuc, ◌-ℤ◌}
 use lib.Signed.{mag, le_z, lt_z}
 use mir.Syntax.{w32, w64}
 use mir.Val.{Fits, SFits, to_z, of_z}
-use mir.ValLaws.{to_z-of_z, to_z_pos}
+use mir.ValLaws.{to_z-of_z}
 use native.Mathlib.Omega.{arith}
 use Rattle.base.specs.Numbers.{unless}
 use Rattle.base.proofs.Signed.{plus, minus, difference_plus, difference_minus, difference_fits, fits_64, le_not_lt}
@@ -72,19 +72,20 @@ module _ (y kept : ℤ) (f : SFits w64 y) (g : SFits w64 kept) (h : weight_rule 
   pub weights_fit : SFits w64 (to_z w64 (of_z w64 y) -ℤ to_z w64 (of_z w64 kept))
   weights_fit = rw (to_z-of_z w64 y f, to_z-of_z w64 kept g) weights_near
 
-  pub weights_less : difference (of_z w64 y) (of_z w64 kept) ≡ y -ℤ kept
+  weights_less : difference (of_z w64 y) (of_z w64 kept) ≡ y -ℤ kept
   weights_less = rw (to_z-of_z w64 y f, to_z-of_z w64 kept g) (to_z-of_z w64 (y -ℤ kept) weights_near)
 
 -- the same of two legs
-module _ (leg own : ℕ) (f : Fits w32 leg) (g : Fits w32 own) where
-  legs_near : SFits w64 (pos leg -ℤ pos own)
-  legs_near = difference_fits leg own (omega (arith, f)) (omega (arith, g))
+legs_less : (leg own : ℕ) → Fits w32 leg → Fits w32 own → difference (of_z w64 (pos leg)) (of_z w64 (pos own)) ≡ pos leg -ℤ pos own
+legs_less leg own f g =
+    rw (to_z-of_z w64 (pos leg) (record { sfits = omega (arith, f) }), to_z-of_z w64 (pos own) (record { sfits = omega (arith, g) }))
+    (to_z-of_z w64 (pos leg -ℤ pos own) (difference_fits leg own (omega (arith, f)) (omega (arith, g))))
 
-  pub legs_fit : SFits w64 (to_z w64 leg -ℤ to_z w64 own)
-  legs_fit = rw (to_z_pos w64 leg (omega (arith, f)), to_z_pos w64 own (omega (arith, g))) legs_near
-
-  pub legs_less : difference leg own ≡ pos leg -ℤ pos own
-  legs_less = rw (to_z_pos w64 leg (omega (arith, f)), to_z_pos w64 own (omega (arith, g))) (to_z-of_z w64 (pos leg -ℤ pos own) legs_near)
+-- the machine's differences of two weights and of two legs compare as the numbers do
+pub slack_read : (y kept : ℤ) (leg own : ℕ) → SFits w64 y → SFits w64 kept → Fits w32 leg → Fits w32 own → weight_rule y ≡ true → weight_rule kept ≡ true
+    → (u v : ℤ) → u ≡ pos leg → v ≡ pos own
+    → le_z (difference (of_z w64 y) (of_z w64 kept)) (difference (of_z w64 u) (of_z w64 v)) ≡ le_z (y -ℤ kept) (pos leg -ℤ pos own)
+slack_read y kept leg own f g m n h l u v d e = rw (d, e, weights_less y kept f g h l, legs_less leg own m n)
 
 -- the comparison of numbers that are those of a stop p and a follower b
 pub vouch_read : (k : ℕ) (f : ℕ → ℕ) (c : ℕ → ℕ → ℕ) (y : ℕ → ℤ) (p b : ℕ) {u v : ℤ} {leg own : ℕ} → u ≡ y b → v ≡ y (f p)

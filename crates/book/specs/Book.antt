@@ -1,15 +1,15 @@
 -- The book of document 01: the first refusal that applies to it, and the fresh book.
-use Rattle.std.specs.Prelude.{ℕ, ◌+◌, ◌*◌, ◌<◌, Bool, ◌&&◌, List, ◌≡◌, leb, ℤ, pos, negsuc, length, get_or, take, replicate}
+use Rattle.std.specs.Prelude.{ℕ, ◌+◌, ◌*◌, ◌<◌, Bool, ◌&&◌, List, ◌≡◌, leb, ℤ, pos, negsuc, length, get_or, take, replicate, Result, Ok, Err}
 use Rattle.std.specs.Int.Signed.{le_z}
+use Rattle.base.specs.declared.Refusal.{Refusal}
 use Rattle.base.specs.Lists.{padded}
-use Rattle.base.specs.Numbers.{unless, ◌then◌, unless_refused, number_of}
+use Rattle.base.specs.Numbers.{unless, ◌then◌, unless_refused, refusal_number}
 use Rattle.base.specs.Tests.{all_below}
 use Rattle.road.specs.Table.{Table, most_metres, metres_of, triangle_refusal}
 use Rattle.dayfile.specs.Day.{most_cranes, most_calls, stops_refusal, placed_refusal, day_refusal}
 use Rattle.dayfile.specs.declared.Day.{Day}
 use Rattle.workfunction.specs.Plan.{plan_rule, vouch_rule, leg_cost}
 use Rattle.book.specs.declared.Book.{Book}
-use Rattle.book.specs.declared.Opening.{Opening}
 
 -- the most stops of a book, and the most followers
 abbrev pub most_stops : ℕ
@@ -132,8 +132,9 @@ pub record Opened : Type 0 where
   pub number : ℕ
   pub book : Book
 
-abbrev pub opening : Opening → Opened
-opening r = record { number = number_of r.verdict; book = r.book }
+abbrev pub opening : Result Book Refusal → Opened
+opening (Ok book) = record { number = 0; book = book }
+opening (Err r) = record { number = refusal_number r; book = empty_book }
 
 -- "Opening a fresh book and writing a day run the same tests on what they are given"
 unfoldable pub fresh_of : Day → Table → Opened

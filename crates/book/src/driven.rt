@@ -3,18 +3,16 @@ ghost use Rattle.std.specs.Prelude.{◌≡◌};
 ghost use Rattle.base.specs.Numbers.{number_of, unless};
 ghost use Rattle.book.specs.Book.{driven_rule};
 
-use base::{Refusal, Verdict};
+use base::Refusal;
 
 // 13 if a crane's metres exceed the most.
-pub(crate) fn test(most: u32, driven: &[u32]) -> Verdict
+pub(crate) fn test(most: u32, driven: &[u32]) -> Result<(), Refusal>
     ensures { number_of result ≡ unless (driven_rule most driven.now) 13 }
 {
-    let mut j = 0;
-    while j < driven.len() {
-        if most < driven[j] {
-            return Verdict::Refused(Refusal::Driven);
+    for metres in driven {
+        if most < *metres {
+            return Err(Refusal::Driven);
         }
-        j += 1;
     }
-    Verdict::Accepted
+    Ok(())
 }

@@ -12,7 +12,7 @@ ghost use Rattle.base.specs.Numbers.{number_of};
 ghost use Rattle.workfunction.specs.Plan.{place};
 ghost use Rattle.book.specs.Book.{book_refusal, opening, fresh_of};
 
-use base::Verdict;
+use base::Refusal;
 use dayfile::Day;
 use road::Road;
 
@@ -34,13 +34,6 @@ pub struct Book {
     pub weights: [i64; Book::STOPS],
     // The metres that each crane has driven.
     pub driven: [u32; Book::CRANES],
-}
-
-// What became of a day for which a book was to be opened: the fresh book, or the refusal and a book of zeros.
-#[derive(Clone, Copy)]
-pub struct Opening {
-    pub verdict: Verdict,
-    pub book: Book,
 }
 
 impl Book {
@@ -73,25 +66,15 @@ impl Book {
 
     // The fresh book of a day: no calls, each crane at its start, start j followed by stand j, weights and metres 0; the
     // same test of the day as for writing it.
-    pub fn fresh(day: Day, table: &[u32]) -> Opening
+    pub fn fresh(day: Day, table: &[u32]) -> Result<Book, Refusal>
         ensures { opening result ≡ fresh_of day table.now }
     {
-        let tested = day.test(table);
-        let Verdict::Accepted = tested else {
-            return Opening {
-                verdict: tested,
-                book: fresh::none(),
-            };
-        };
-        let starts = day.starts;
-        Opening {
-            verdict: Verdict::Accepted,
-            book: fresh::book(day.cranes, starts),
-        }
+        day.test(table)?;
+        Ok(fresh::book(day.cranes, day.starts))
     }
 
     // The whole test of a book against a table: 3, 6, 7, 4, 5 of starts and calls as of a day, 5 of stands, 8, 9, 10, 13.
-    pub fn test(self, places: usize, table: &[u32]) -> Verdict
+    pub fn test(self, places: usize, table: &[u32]) -> Result<(), Refusal>
         ensures { number_of result ≡ book_refusal self places table.now }
     {
         let cranes = self.cranes;
@@ -109,24 +92,12 @@ impl Book {
             starts,
             requests,
         };
-        let placed = day.test_placed(table);
-        let Verdict::Accepted = placed else {
-            return placed;
-        };
-        let standing = Day::test_stops(places, &stands[..cranes]);
-        let Verdict::Accepted = standing else {
-            return standing;
-        };
-        let triangled = Road::test_triangles(places, table);
-        let Verdict::Accepted = triangled else {
-            return triangled;
-        };
+        day.test_placed(table)?;
+        Day::test_stops(places, &stands[..cranes])?;
+        Road::test_triangles(places, table)?;
         let stops = cranes + calls;
-        let planned = plan::test(cranes, stops, &plan[..]);
-        let Verdict::Accepted = planned else {
-            return planned;
-        };
-        let vouched = weights::test(
+        plan::test(cranes, stops, &plan[..])?;
+        weights::test(
             table,
             &starts[..cranes],
             &requests[..calls],
@@ -134,8 +105,7 @@ impl Book {
             stops,
             &plan[..],
             &weights[..],
-        );
-        let most = Road::METRES * calls as u32;
-        vouched.then(driven::test(most, &driven[..cranes]))
+        )?;
+        driven::test(Road::METRES * calls as u32, &driven[..cranes])
     }
 }

@@ -9,71 +9,71 @@ ghost use Rattle.book.specs.Book.{follower, weight, weight_rule, range_rule, wei
 ghost use Rattle.book.specs.Weights.{Followed, Weighed};
 
 use crate::Book;
-use base::{Refusal, Verdict};
+use base::Refusal;
 use road::Road;
 
 // 10 unless a weight is within its range.
-fn test_weight(y: i64) -> Verdict
+fn test_weight(y: i64) -> Result<(), Refusal>
     ensures { number_of result ≡ unless (weight_rule y) 10 }
 {
     if y < -Book::WEIGHT {
-        return Verdict::Refused(Refusal::Weights);
+        return Err(Refusal::Weights);
     }
     if Book::WEIGHT < y {
-        return Verdict::Refused(Refusal::Weights);
+        return Err(Refusal::Weights);
     }
-    Verdict::Accepted
+    Ok(())
 }
 
 // 10 unless every weight is within its range.
-fn test_range(stops: usize, weights: &[i64]) -> Verdict
+fn test_range(stops: usize, weights: &[i64]) -> Result<(), Refusal>
     requires { stops ≤ length weights.now }
     ensures { number_of result ≡ unless (range_rule stops (weight weights.now)) 10 }
 {
-    let mut i = 0;
-    while i < stops {
-        let ranged = test_weight(weights[i]);
-        let Verdict::Accepted = ranged else {
-            return ranged;
-        };
-        i += 1;
+    for i in 0..stops {
+        test_weight(weights[i])?;
     }
-    Verdict::Accepted
+    Ok(())
 }
 
 // 10 unless one weight less another is at most one leg less another.
-fn test_slack(y: i64, kept: i64, leg: u32, own: u32) -> Verdict
+fn test_slack(y: i64, kept: i64, leg: u32, own: u32) -> Result<(), Refusal>
     requires { (weight_rule y ≡ true) × (weight_rule kept ≡ true) }
     ensures { number_of result ≡ unless (le_z (y -ℤ kept) (pos leg -ℤ pos own)) 10 }
 {
-    if y - kept <= leg as i64 - own as i64 {
-        return Verdict::Accepted;
+    if y - kept <= i64::from(leg) - i64::from(own) {
+        return Ok(());
     }
-    Verdict::Refused(Refusal::Weights)
+    Err(Refusal::Weights)
 }
 
 // The cost of the leg from stop p to follower b.
 fn leg(table: &[u32], starts: &[u16], calls: &[u16], stands: &[u16], p: usize, b: usize) -> u32
     ensures { result ≡ leg_cost (entry (metres_of table.now)) starts.now calls.now stands.now p b }
 {
-    let from = Book::place_of(starts, calls, p) as usize;
-    let to = Book::place_of(stands, calls, b) as usize;
+    let from = usize::from(Book::place_of(starts, calls, p));
+    let to = usize::from(Book::place_of(stands, calls, b));
     Road::metres(table, from, to)
 }
 
 // 10 unless the inequality of stop p and follower b holds, where b may follow p: y and leg are those of b, kept and own those of
 // the follower of p.
-fn test_at(cranes: usize, p: usize, b: usize, y: i64, kept: i64, leg: u32, own: u32) -> Verdict
+fn test_at(
+    cranes: usize,
+    p: usize,
+    b: usize,
+    y: i64,
+    kept: i64,
+    leg: u32,
+    own: u32,
+) -> Result<(), Refusal>
     requires { (weight_rule y ≡ true) × (weight_rule kept ≡ true) }
     ensures { number_of result ≡ unless (cond (may_follow cranes p b) (le_z (y -ℤ kept) (pos leg -ℤ pos own)) true) 10 }
 {
-    if b < cranes {
+    if b < cranes || p < b {
         return test_slack(y, kept, leg, own);
     }
-    if p < b {
-        return test_slack(y, kept, leg, own);
-    }
-    Verdict::Accepted
+    Ok(())
 }
 
 // 10 unless the inequality of stop p holds for every b that may follow it.
@@ -86,22 +86,17 @@ fn test_from(
     plan: &[u16],
     weights: &[i64],
     p: usize,
-) -> Verdict
+) -> Result<(), Refusal>
     requires { (p < stops) × Weighed stops plan.now weights.now }
     ensures { number_of result ≡ unless (all_below stops (vouch_at (length starts.now) (follower plan.now) (leg_cost (entry (metres_of table.now)) starts.now calls.now stands.now) (weight weights.now) p)) 10 }
 {
-    let kept = plan[p] as usize;
+    let kept = usize::from(plan[p]);
     let own = leg(table, starts, calls, stands, p, kept);
-    let mut b = 0;
-    while b < stops {
+    for b in 0..stops {
         let way = leg(table, starts, calls, stands, p, b);
-        let vouched = test_at(starts.len(), p, b, weights[b], weights[kept], way, own);
-        let Verdict::Accepted = vouched else {
-            return vouched;
-        };
-        b += 1;
+        test_at(starts.len(), p, b, weights[b], weights[kept], way, own)?;
     }
-    Verdict::Accepted
+    Ok(())
 }
 
 // 10 unless the weights vouch for the plan.
@@ -113,19 +108,14 @@ fn test_vouching(
     stops: usize,
     plan: &[u16],
     weights: &[i64],
-) -> Verdict
+) -> Result<(), Refusal>
     requires { Weighed stops plan.now weights.now }
     ensures { number_of result ≡ unless (vouch_rule (length starts.now) stops (follower plan.now) (leg_cost (entry (metres_of table.now)) starts.now calls.now stands.now) (weight weights.now)) 10 }
 {
-    let mut p = 0;
-    while p < stops {
-        let vouched = test_from(table, starts, calls, stands, stops, plan, weights, p);
-        let Verdict::Accepted = vouched else {
-            return vouched;
-        };
-        p += 1;
+    for p in 0..stops {
+        test_from(table, starts, calls, stands, stops, plan, weights, p)?;
     }
-    Verdict::Accepted
+    Ok(())
 }
 
 // 10 unless the weights are within their range and vouch for the plan, over the legs of the table.
@@ -137,13 +127,10 @@ pub(crate) fn test(
     stops: usize,
     plan: &[u16],
     weights: &[i64],
-) -> Verdict
+) -> Result<(), Refusal>
     requires { Followed stops plan.now weights.now }
     ensures { number_of result ≡ weights_refusal (length starts.now) stops plan.now weights.now (leg_cost (entry (metres_of table.now)) starts.now calls.now stands.now) }
 {
-    let ranged = test_range(stops, weights);
-    let Verdict::Accepted = ranged else {
-        return ranged;
-    };
+    test_range(stops, weights)?;
     test_vouching(table, starts, calls, stands, stops, plan, weights)
 }

@@ -6,14 +6,14 @@ use Rattle.base.proofs.Tests.{begun, turned, ended, below_fails}
 use Rattle.book.proofs.driven.test.Invariants.{rule}
 use Rattle.book.proofs.driven.test.Goals as goal
 
-pub loop-j-init : goal.loop-j-init
-loop-j-init c = begun _ _
+pub loop-metres-init : goal.loop-metres-init
+loop-metres-init c = begun _ _
 
-pub returns-then-most-driven : goal.returns-then-most-driven
-returns-then-most-driven c = rw (below_fails (rule c.args.most c.args.driven.now) (length c.args.driven.now) c.loop-j.j c.loop-j-test.true (lt-leb _ _ c.if-most-driven.true))
+pub returns-then-most-metres : goal.returns-then-most-metres
+returns-then-most-metres c = rw (below_fails (rule c.args.most c.args.driven.now) (length c.args.driven.now) c.loop-metres.metres-index c.loop-metres-test.true (lt-leb _ _ c.if-most-metres.true))
 
-pub loop-j-preserved : goal.loop-j-preserved
-loop-j-preserved c = turned _ _ c.loop-j.j c.loop-j.invariant c.loop-j-test.true (le-leb _ _ c.if-most-driven.false)
+pub loop-metres-preserved : goal.loop-metres-preserved
+loop-metres-preserved c = turned _ _ c.loop-metres.metres-index c.loop-metres.invariant c.loop-metres-test.true (le-leb _ _ c.if-most-metres.false)
 
 pub returns : goal.returns
-returns c = rw (ended _ _ c.loop-j.j c.loop-j.invariant c.loop-j-test.false)
+returns c = rw (ended _ _ c.loop-metres.metres-index c.loop-metres.invariant c.loop-metres-test.false)

@@ -1,6 +1,6 @@
 -- `book::driven::test` meets its contract: the loop passes the cranes whose metres are within the most.
 -- Assumes nothing.
-use Prim.Native.Nat.{ℕ, ◌-◌}
+use Prim.Native.Nat.{ℕ}
 use mathlib.Core.Bool.{Bool}
 use mathlib.Core.List.{List}
 use lib.Dec.{leb}
@@ -12,8 +12,5 @@ use Rattle.book.proofs.driven.test.Given as goal
 abbrev pub rule : ℕ → List ℕ → ℕ → Bool
 rule most driven j = leb (get_or driven j 0) most
 
-abbrev pub invariant-loop-j : goal.invariant-loop-j
-invariant-loop-j l = Passed (length l.driven) (rule l.most l.driven) l.j
-
-abbrev pub decreases-loop-j : goal.decreases-loop-j
-decreases-loop-j l = length l.driven - l.j
+abbrev pub invariant-loop-metres : goal.invariant-loop-metres
+invariant-loop-metres l = Passed (length l.driven) (rule l.most l.driven) l.metres-index

@@ -1,6 +1,6 @@
 -- `book::plan::test_followers` meets its contract: the loop passes the stops whose follower is in range and may follow them.
 -- Assumes nothing.
-use Prim.Native.Nat.{ℕ, ◌-◌}
+use Prim.Native.Nat.{ℕ}
 use mathlib.Core.Bool.{Bool, ◌&&◌}
 use mathlib.Core.List.{List}
 use lib.Dec.{ltb}
@@ -16,6 +16,3 @@ rule cranes stops plan p = ltb (follower plan p) stops && may_follow cranes p (f
 
 abbrev pub invariant-loop-p : goal.invariant-loop-p
 invariant-loop-p l = Passed l.stops (rule l.cranes l.stops l.plan) l.p
-
-abbrev pub decreases-loop-p : goal.decreases-loop-p
-decreases-loop-p l = l.stops - l.p

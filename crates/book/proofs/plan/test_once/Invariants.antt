@@ -1,6 +1,6 @@
 -- `book::plan::test_once` meets its contract: the loop passes the calls and stands that follow exactly one stop.
 -- Assumes nothing.
-use Prim.Native.Nat.{ℕ, ◌-◌}
+use Prim.Native.Nat.{ℕ}
 use mathlib.Core.Bool.{Bool}
 use mathlib.Core.List.{List}
 use lib.Dec.{eqb}
@@ -16,6 +16,3 @@ rule stops plan b = eqb (sum_below stops (follows (follower plan) b)) 1
 
 abbrev pub invariant-loop-b : goal.invariant-loop-b
 invariant-loop-b l = Passed l.stops (rule l.stops l.plan) l.b
-
-abbrev pub decreases-loop-b : goal.decreases-loop-b
-decreases-loop-b l = l.stops - l.b

@@ -6,4 +6,4 @@ use Rattle.book.proofs.weights.leg.Goals as goal
 
 pub returns : goal.returns
 unfolding leg_cost
-returns c = c.metres.ensures ∙ rw (c.place_of-from.ensures, c.place_of-to.ensures)
+returns c = c.metres.ensures ∙ rw (c.from-from.ensures, c.from-to.ensures, c.place_of.ensures, c.place_of-2.ensures)

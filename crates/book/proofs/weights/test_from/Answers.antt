@@ -1,59 +1,42 @@
 -- `book::weights::test_from` meets its contract: the loop passes the calls and stands b for which the inequality of p holds.
 -- Assumes nothing.
-use Prim.Native.Nat.{◌<◌}
-use mathlib.Core.Bool.{Bool}
+use mathlib.Core.Bool.{Bool, true, cond}
 use mathlib.Core.Path.{◌≡◌, ap, ◌∙◌}
+use lib.IntN.{pos, ◌-ℤ◌}
 use lib.ListN.{length}
-use native.Mathlib.Omega.{arith}
-use Rattle.base.specs.Numbers.{number_of, unless}
-use Rattle.base.proofs.Numbers.{turns, stops_below}
-use Rattle.base.proofs.Tests.{begun, ended}
+use lib.Signed.{le_z}
+use mir.Syntax.{w64}
+use mir.Val.{to_z, of_z}
+use Rattle.base.specs.Numbers.{unless}
+use Rattle.base.proofs.Numbers.{up, turns, stops_below}
+use Rattle.base.proofs.Tests.{begun}
 use Rattle.road.specs.Table.{metres_of, entry}
-use Rattle.workfunction.specs.Plan.{leg_cost}
+use Rattle.workfunction.specs.Plan.{may_follow, leg_cost}
 use Rattle.book.specs.Book.{follower, weight}
 use Rattle.book.proofs.Vouching.{read_back, vouch_read}
 use Rattle.book.proofs.weights.test_from.Invariants.{rule}
 use Rattle.book.proofs.weights.test_from.Goals as goal
-use Rattle.book.proofs.weights.test_from.Goals.{After-test_at-vouched, Start}
+use Rattle.book.proofs.weights.test_from.Goals.{After-test_at}
 
--- the follower of p is in range
-kept_below : (c : Start) → follower c.args.plan.now c.args.p < c.args.stops
-kept_below c = c.requires.1.followed.below c.args.p c.requires.0
-
--- the test of one b
-vouched : (c : After-test_at-vouched)
-    → number_of c.test_at-vouched.result
-    ≡ unless (rule c.args.table.now c.args.starts.now c.args.calls.now c.args.stands.now c.args.plan.now c.args.weights.now c.args.p c.loop-b.b) 10
-vouched c =
-    c.test_at-vouched.ensures
-    ∙ ap (λ (r : Bool). unless r 10)
-    (vouch_read (length c.args.starts.now) (follower c.args.plan.now)
+-- the test of one b is that of the inequality
+same : (c : After-test_at)
+    → cond (may_follow (length c.args.starts.now) c.args.p c.loop-b.b)
+    (le_z (to_z w64 (of_z w64 (weight c.args.weights.now c.loop-b.b)) -ℤ to_z w64 (of_z w64 (weight c.args.weights.now c.from-kept.result)))
+    (pos c.leg-way.result -ℤ pos c.leg-own.result)) true
+    ≡ rule c.args.table.now c.args.starts.now c.args.calls.now c.args.stands.now c.args.plan.now c.args.weights.now c.args.p c.loop-b.b
+same c =
+    vouch_read (length c.args.starts.now) (follower c.args.plan.now)
     (leg_cost (entry (metres_of c.args.table.now)) c.args.starts.now c.args.calls.now c.args.stands.now) (weight c.args.weights.now) c.args.p c.loop-b.b
-    (read_back _ c.test_at-arg-1.given) (read_back _ c.test_at-arg-in-loop-b-1.given) c.leg-way.ensures c.leg-own.ensures)
-
-pub overflow_cast-kept : goal.overflow_cast-kept
-overflow_cast-kept c = omega (arith, c.shared_slice_known-6-1.given c.args.p)
+    (read_back _ c.test_at-arg-1.given) (read_back _ c.test_at-arg-in-loop-b-1.given ∙ ap (weight c.args.weights.now) c.from-kept.ensures)
+    c.leg-way.ensures (rw c.from-kept.ensures at c.leg-own.ensures)
 
 pub loop-b-init : goal.loop-b-init
 loop-b-init c = begun _ _
 
-pub offset_bounds-weights-kept : goal.offset_bounds-weights-kept
-offset_bounds-weights-kept c = omega (arith, kept_below (goal.at.offset_bounds-weights-kept c).Start, c.requires.1.followed)
-
-pub bounds-weights-kept : goal.bounds-weights-kept
-bounds-weights-kept c = omega (arith, kept_below (goal.at.bounds-weights-kept c).Start, c.requires.1.followed)
-
-pub test_at-vouched-requires : goal.test_at-vouched-requires
-test_at-vouched-requires c = (
-  rw (read_back _ c.test_at-arg-1.given) (c.requires.1.ranged _ c.loop-b-test.true),
-  rw (read_back _ c.test_at-arg-in-loop-b-1.given) (c.requires.1.ranged _ (kept_below (goal.at.test_at-vouched-requires c).Start)),
-)
-
-pub returns-in_default : goal.returns-in_default
-returns-in_default c = stops_below _ c.in_default.field-0 c.in_default.is _ _ 10 _ (vouched (goal.at.returns-in_default c).After-test_at-vouched) c.loop-b-test.true
+pub returns-in_err-test_at : goal.returns-in_err-test_at
+returns-in_err-test_at c = up _ _ _ c.from_residual.ensures.1
+    (stops_below _ c.args.stops c.loop-b.b 10 (rule c.args.table.now c.args.starts.now c.args.calls.now c.args.stands.now c.args.plan.now c.args.weights.now c.args.p)
+    (c.in_err-test_at.ensures ∙ ap (λ (r : Bool). unless r 10) (same (goal.at.returns-in_err-test_at c).After-test_at)) c.loop-b-test.true)
 
 pub loop-b-preserved : goal.loop-b-preserved
-loop-b-preserved c = turns _ _ _ 9 _ c.in-Accepted.is (vouched (goal.at.loop-b-preserved c).After-test_at-vouched) c.loop-b-test.true c.loop-b.invariant
-
-pub returns : goal.returns
-returns c = rw (ended _ _ c.loop-b.b c.loop-b.invariant c.loop-b-test.false)
+loop-b-preserved c = turns _ c.loop-b.b 9 _ (c.in_ok-test_at.ensures ∙ ap (λ (r : Bool). unless r 10) (same (goal.at.loop-b-preserved c).After-test_at)) c.loop-b-test.true c.loop-b.invariant

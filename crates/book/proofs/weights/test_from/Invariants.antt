@@ -1,6 +1,6 @@
 -- `book::weights::test_from` meets its contract: the loop passes the calls and stands b for which the inequality of p holds.
 -- Assumes nothing.
-use Prim.Native.Nat.{ℕ, ◌-◌}
+use Prim.Native.Nat.{ℕ}
 use mathlib.Core.Bool.{Bool}
 use mathlib.Core.List.{List}
 use lib.IntN.{ℤ}
@@ -18,6 +18,3 @@ rule table starts calls stands plan weights p =
 
 abbrev pub invariant-loop-b : goal.invariant-loop-b
 invariant-loop-b l = Passed l.stops (rule l.table l.starts l.calls l.stands l.plan l.weights l.p) l.b
-
-abbrev pub decreases-loop-b : goal.decreases-loop-b
-decreases-loop-b l = l.stops - l.b

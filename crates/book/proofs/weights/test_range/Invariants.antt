@@ -1,6 +1,6 @@
 -- `book::weights::test_range` meets its contract: the loop passes the weights within their range.
 -- Assumes nothing.
-use Prim.Native.Nat.{ℕ, ◌-◌}
+use Prim.Native.Nat.{ℕ}
 use mathlib.Core.Bool.{Bool}
 use mathlib.Core.List.{List}
 use lib.IntN.{ℤ}
@@ -14,6 +14,3 @@ rule weights b = weight_rule (weight weights b)
 
 abbrev pub invariant-loop-i : goal.invariant-loop-i
 invariant-loop-i l = Passed l.stops (rule l.weights) l.i
-
-abbrev pub decreases-loop-i : goal.decreases-loop-i
-decreases-loop-i l = l.stops - l.i

@@ -1,6 +1,6 @@
 -- `book::weights::test_vouching` meets its contract: the loop passes the stops p whose inequality holds for every b that may follow it.
 -- Assumes nothing.
-use Rattle.base.proofs.Numbers.{turns, stops_below}
+use Rattle.base.proofs.Numbers.{up, turns, stops_below}
 use Rattle.base.proofs.Tests.{begun, ended}
 use Rattle.workfunction.specs.Plan.{vouch_rule}
 use Rattle.book.proofs.weights.test_vouching.Goals as goal
@@ -8,12 +8,12 @@ use Rattle.book.proofs.weights.test_vouching.Goals as goal
 pub loop-p-init : goal.loop-p-init
 loop-p-init c = begun _ _
 
-pub returns-in_default : goal.returns-in_default
+pub returns-in_err-test_from : goal.returns-in_err-test_from
 unfolding vouch_rule
-returns-in_default c = stops_below _ c.in_default.field-0 c.in_default.is _ _ 10 _ c.test_from-vouched.ensures c.loop-p-test.true
+returns-in_err-test_from c = up _ _ _ c.from_residual.ensures.1 (stops_below _ _ c.loop-p.p 10 _ c.in_err-test_from.ensures c.loop-p-test.true)
 
 pub loop-p-preserved : goal.loop-p-preserved
-loop-p-preserved c = turns _ _ _ 9 _ c.in-Accepted.is c.test_from-vouched.ensures c.loop-p-test.true c.loop-p.invariant
+loop-p-preserved c = turns _ c.loop-p.p 9 _ c.in_ok-test_from.ensures c.loop-p-test.true c.loop-p.invariant
 
 pub returns : goal.returns
 unfolding vouch_rule

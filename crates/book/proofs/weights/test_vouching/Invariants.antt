@@ -1,6 +1,6 @@
 -- `book::weights::test_vouching` meets its contract: the loop passes the stops p whose inequality holds for every b that may follow it.
 -- Assumes nothing.
-use Prim.Native.Nat.{ℕ, ◌-◌}
+use Prim.Native.Nat.{ℕ}
 use mathlib.Core.Bool.{Bool}
 use mathlib.Core.List.{List}
 use lib.IntN.{ℤ}
@@ -19,6 +19,3 @@ rule table starts calls stands stops plan weights = λ p.
 
 abbrev pub invariant-loop-p : goal.invariant-loop-p
 invariant-loop-p l = Passed l.stops (rule l.table l.starts l.calls l.stands l.stops l.plan l.weights) l.p
-
-abbrev pub decreases-loop-p : goal.decreases-loop-p
-decreases-loop-p l = l.stops - l.p
