@@ -158,10 +158,14 @@ module _ (x : Refusal) where
   pub handed_up : (s t : ℕ) → refusal_number x ≡ s → refusal_number x ≡ (s then t)
   handed_up s t h = h ∙ refused_first s t (λ e. refused_number x (h ∙ e))
 
+-- what a `?` hands up is what it met
+pub exits : {A E : Type 0} (r : Result A E) (x : E) → IsErrAnd r (λ y. y ≡ x) → r ≡ Err x
+exits (Ok a) x h = absurd h
+exits (Err y) x h = ap Err h
+
 -- what a `?` hands up has the number of the refusal that it met
 pub up : {A : Type 0} (r : Result A Refusal) (x : Refusal) (n : ℕ) → IsErrAnd r (λ y. y ≡ x) → refusal_number x ≡ n → number_of r ≡ n
-up (Ok a) x n h e = absurd h
-up (Err y) x n h e = ap refusal_number h ∙ e
+up r x n h e = ap number_of (exits r x h) ∙ e
 
 -- the laws by which a function that hands refusals up by `?` meets its contract
 pub ruleset handing = (up, goes_on, handed_up)

@@ -69,9 +69,9 @@ module _ (bs : List ℕ) where
 
   module _ (long : length_refusal (length bs) ≡ 0) where
     -- 2 to 7, with the index of the record or of the end
-    pub record_refused : (i n : ℕ) (s : State) → refuse_at i n (counted s) ≡ scan 0 start (records bs) → (n ≡ 0 → ⊥) → refusal n i ≡ read_file bs
+    pub record_refused : (i n : ℕ) → refused n i ≡ scan 0 start (records bs) → refusal n i ≡ read_file bs
     unfolding tested
-    record_refused i n s e h = answered (refused n i) (rw (long, ← e, refuses i n (counted s) h))
+    record_refused i n e = answered (refused n i) (rw (long, ← e))
 
     module _ (s : State) (e : counted s ≡ scan 0 start (records bs)) (n : ℕ) (f : n ≡ triangle_refusal s.second (read_run s.second (records bs))) where
       -- 8

@@ -1,7 +1,13 @@
 -- The bytes of a record: "Records of 12 bytes, no header, little-endian."
 use Rattle.std.specs.Prelude.{ℕ, zero, suc, ◌+◌, ◌*◌, ◌/◌, ◌%◌, get_or}
 use mathlib.Core.List.{List, [], ◌∷◌, ◌++◌, flat_map}
+use Rattle.std.specs.Prelude.{◌≡◌, Bool, false, Result, Ok, Err}
 use Rattle.base.specs.Lists.{blocks}
+use Rattle.base.specs.Tests.{within}
+use Rattle.base.specs.declared.Refusal.{Refusal}
+use Rattle.base.specs.declared.Refusal.TheVariants as Refused
+use Rattle.dayfile.specs.declared.codec.Kind.{Kind}
+use Rattle.dayfile.specs.declared.codec.Kind.TheVariants.{Leg, Crane, Call}
 use Rattle.dayfile.specs.declared.codec.Record.{Record}
 
 -- the number in a list of bytes, the lowest first
@@ -20,6 +26,17 @@ two bs i = little (get_or bs i 0 ∷ get_or bs (i + 1) 0 ∷ [])
 
 abbrev pub four : List ℕ → ℕ → ℕ
 four bs i = little (get_or bs i 0 ∷ get_or bs (i + 1) 0 ∷ get_or bs (i + 2) 0 ∷ get_or bs (i + 3) 0 ∷ [])
+
+-- "Byte 0 is the kind: 1 leg, 2 crane, 3 call."
+abbrev pub kind_number : Kind → ℕ
+kind_number Leg = 1
+kind_number Crane = 2
+kind_number Call = 3
+
+-- a byte is that of the kind, or of none
+abbrev pub HasKind : ℕ → Result Kind Refusal → Type 0
+HasKind byte (Ok kind) = kind_number kind ≡ byte
+HasKind byte (Err r) = (r ≡ Refused.Record) × (within 1 3 byte ≡ false)
 
 -- "Byte 0 is the kind .. Bytes 2-3: first place. Bytes 4-5: second place .. Bytes 8-11: metres"
 unfoldable pub decode : List ℕ → Record

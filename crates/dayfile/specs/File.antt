@@ -1,11 +1,12 @@
 -- What reading and writing a day file give, for all bytes, days and buffers.
-use Rattle.std.specs.Prelude.{ℕ, ◌+◌, ◌*◌, ◌≤◌, List, leb, length, get_or, take, replicate}
+use Rattle.std.specs.Prelude.{ℕ, ◌+◌, ◌*◌, ◌≤◌, List, leb, length, get_or, take, replicate, Result, Ok, Err}
 use Rattle.base.specs.Lists.{padded, splice}
-use Rattle.base.specs.Numbers.{number_of, unless, ◌then◌, unless_refused}
+use Rattle.base.specs.declared.Refusal.{Refusal}
+use Rattle.base.specs.Numbers.{refusal_number, unless, ◌then◌, unless_refused}
 use Rattle.road.specs.Table.{Table, most_places, most_legs, leg_count, run_of, metres_of, triangle_refusal}
 use Rattle.dayfile.specs.declared.Day.{Day}
 use Rattle.dayfile.specs.declared.Reading.{Reading}
-use Rattle.dayfile.specs.declared.Written.{Written}
+use Rattle.dayfile.specs.declared.FileRefusal.{FileRefusal}
 use Rattle.dayfile.specs.declared.codec.Record.{Record}
 use Rattle.dayfile.specs.declared.scan.State.{State}
 use Rattle.dayfile.specs.Codec.{records, encode_all}
@@ -55,11 +56,13 @@ pub record Answer : Type 0 where
   pub day : Day
   pub table : List ℕ
 
-abbrev pub answer : Reading → Answer
-answer r = record { number = number_of r.verdict; index = r.index; day = r.day; table = r.table }
-
 abbrev pub refusal : ℕ → ℕ → Answer
 refusal n i = record { number = n; index = i; day = no_day; table = replicate most_legs 0 }
+
+-- a refused file has no day and no table: "other results 0"
+abbrev pub answer : Result Reading FileRefusal → Answer
+answer (Ok r) = record { number = 0; index = 0; day = r.day; table = r.table }
+answer (Err f) = refusal (refusal_number f.refusal) f.index
 
 abbrev pub answer_of : List Record → Scan → Answer
 answer_of rs (counted s) = record { number = 0; index = 0; day = day_of rs s; table = table_of s.second rs }
@@ -83,8 +86,9 @@ pub record Output : Type 0 where
 abbrev pub bytes_written : Output → List ℕ
 bytes_written o = take o.length o.buffer
 
-abbrev pub written : Written → List ℕ → Output
-written r out = record { number = number_of r.verdict; length = r.length; buffer = out }
+abbrev pub written : Result ℕ Refusal → List ℕ → Output
+written (Ok n) out = record { number = 0; length = n; buffer = out }
+written (Err r) out = record { number = refusal_number r; length = 0; buffer = out }
 
 -- the file of a day
 abbrev pub day_bytes : Day → (ℕ → ℕ → ℕ) → List ℕ

@@ -1,10 +1,11 @@
 -- The records of a file, tested one after another. What has been read is kept as four numbers: the first and second place
 -- of the next leg, were one to come, and how many cranes and calls there were. Where no legs are missing the next leg's
 -- first place is 0, and its second place is the number of places: "1 more than the last second place, or 1 with no legs".
-use Rattle.std.specs.Prelude.{ℕ, ◌+◌, ◌%◌, ◌<◌, ◌≤◌, Bool, cond, List, [], ◌∷◌, eqb, leb, ltb}
-use Rattle.base.specs.Numbers.{unless, ◌then◌, unless_refused}
+use Rattle.std.specs.Prelude.{ℕ, ◌+◌, ◌%◌, ◌<◌, ◌≤◌, Bool, cond, List, [], ◌∷◌, eqb, leb, ltb, Result, Ok, Err}
+use Rattle.base.specs.Numbers.{refusal_number, unless, ◌then◌, unless_refused}
 use Rattle.base.specs.Tests.{within}
 use Rattle.road.specs.Table.{most_places, metres_refusal}
+use Rattle.dayfile.specs.declared.FileRefusal.{FileRefusal}
 use Rattle.dayfile.specs.declared.codec.Record.{Record}
 use Rattle.dayfile.specs.declared.scan.State.{State}
 use Rattle.dayfile.specs.Day.{most_cranes, most_calls}
@@ -90,6 +91,11 @@ end_refusal s = missing_refusal s then unless (ltb 0 s.cranes) 6
 pub data Scan : Type 0 where
   refused : ℕ → ℕ → Scan
   counted : State → Scan
+
+-- what a scan that ends tells: what was read, or the refusal with its index
+abbrev pub scanned : Result State FileRefusal → Scan
+scanned (Ok s) = counted s
+scanned (Err f) = refused (refusal_number f.refusal) f.index
 
 -- a refusal with the index that goes with it, else what comes after
 abbrev pub refuse_at : ℕ → ℕ → Scan → Scan

@@ -1,14 +1,47 @@
 // A record's six fields, and its 12 bytes.
 ghost use Rattle.std.specs.Prelude.{◌≡◌, ◌+◌, ◌≤◌, length, drop};
 ghost use Rattle.base.specs.Lists.{splice};
-ghost use Rattle.dayfile.specs.Codec.{bytes_of, two, four, decode, encode};
+ghost use Rattle.dayfile.specs.Codec.{kind_number, HasKind, bytes_of, two, four, decode, encode};
+
+use base::Refusal;
 
 // The kinds of records.
-pub(crate) const LEG: u8 = 1;
+#[derive(Clone, Copy, PartialEq, Eq)]
+pub enum Kind {
+    Leg,
+    Crane,
+    Call,
+}
 
-pub(crate) const CRANE: u8 = 2;
+// The byte of a kind.
+impl From<Kind> for u8 {
+    ghost from_gives = { λ kind byte. byte ≡ kind_number kind };
 
-pub(crate) const CALL: u8 = 3;
+    fn from(kind: Kind) -> u8 {
+        match kind {
+            Kind::Leg => 1,
+            Kind::Crane => 2,
+            Kind::Call => 3,
+        }
+    }
+}
+
+// The kind of a byte; 2 where no kind has it.
+impl TryFrom<u8> for Kind {
+    type Error = Refusal;
+
+    ghost try_from_gives = { HasKind };
+
+    #[tactic(auto, unfolding(base::specs::Tests::within))]
+    fn try_from(byte: u8) -> Result<Self, Refusal> {
+        match byte {
+            1 => Ok(Kind::Leg),
+            2 => Ok(Kind::Crane),
+            3 => Ok(Kind::Call),
+            _ => Err(Refusal::Record),
+        }
+    }
+}
 
 // The fields in their order; `pad` is byte 1 and `gap` bytes 6 and 7.
 #[derive(Clone, Copy)]

@@ -5,7 +5,7 @@ ghost use Rattle.road.specs.Table.{most_places, leg_count, metres_of};
 ghost use Rattle.dayfile.specs.Codec.{records, encode_all};
 ghost use Rattle.dayfile.specs.Legs.{leg, table_of, leg_records};
 
-use crate::codec::Record;
+use crate::codec::{Kind, Record};
 use crate::{Day, codec};
 use road::Road;
 
@@ -16,11 +16,8 @@ pub(crate) fn table(bytes: &[u8], places: usize) -> [u32; Road::LEGS]
 {
     let legs = Road::legs(places);
     let mut table = [0; Road::LEGS];
-    let mut i = 0;
-    while i < legs {
-        let r = codec::read(bytes, Day::RECORD_LENGTH * i);
-        table[i] = r.metres;
-        i += 1;
+    for i in 0..legs {
+        table[i] = codec::read(bytes, Day::RECORD_LENGTH * i).metres;
     }
     table
 }
@@ -31,10 +28,9 @@ fn put_to(table: &[u32], v: usize, out: &mut [u8])
     ensures { out.new ≡ splice (12 * leg_count v) (encode_all (up_to v (λ u. leg u v (metres_of table.now u v)))) out.old }
 {
     let from = Road::legs(v);
-    let mut u = 0;
-    while u < v {
+    for u in 0..v {
         let r = Record {
-            kind: codec::LEG,
+            kind: u8::from(Kind::Leg),
             pad: 0,
             first: u as u16,
             second: v as u16,
@@ -42,7 +38,6 @@ fn put_to(table: &[u32], v: usize, out: &mut [u8])
             metres: Road::metres(table, u, v),
         };
         codec::put(r, out, Day::RECORD_LENGTH * (from + u));
-        u += 1;
     }
 }
 
@@ -51,9 +46,7 @@ pub(crate) fn put(table: &[u32], places: usize, out: &mut [u8])
     requires { (places ≤ most_places) × (12 * leg_count places ≤ length out.old) }
     ensures { out.new ≡ splice 0 (encode_all (leg_records (metres_of table.now) places)) out.old }
 {
-    let mut v = 0;
-    while v < places {
+    for v in 0..places {
         put_to(table, v, out);
-        v += 1;
     }
 }

@@ -1,14 +1,14 @@
 // A file's records, tested one after another in one pass; and what is read of a refused file and of an accepted one.
-ghost use Rattle.std.specs.Prelude.{◌≡◌, length};
+ghost use Rattle.std.specs.Prelude.{◌≡◌, length, IfOk};
 ghost use Rattle.base.specs.Numbers.{number_of};
-ghost use Rattle.dayfile.specs.Codec.{records};
-ghost use Rattle.dayfile.specs.Scan.{start, Limited, after, length_refusal, bare_refusal, form_refusal, leg_refusal, stop_refusal, crane_refusal, call_refusal, record_refusal, end_refusal, counted, refuse_at};
+ghost use Rattle.dayfile.specs.Codec.{records, kind_number};
+ghost use Rattle.dayfile.specs.Scan.{start, Limited, after, length_refusal, bare_refusal, form_refusal, leg_refusal, stop_refusal, crane_refusal, call_refusal, record_refusal, end_refusal, scanned};
 ghost use Rattle.dayfile.specs.Scan as spec;
-ghost use Rattle.dayfile.specs.File.{day_of, Room, answer, refusal};
+ghost use Rattle.dayfile.specs.File.{day_of, Room};
 
-use crate::codec::Record;
-use crate::{Day, Reading, codec, stops};
-use base::{Refusal, Verdict};
+use crate::codec::{Kind, Record};
+use crate::{Day, FileRefusal, codec, stops};
+use base::Refusal;
 use road::Road;
 
 // What has been read: the first and second place of the next leg, were one to come, and the numbers of cranes and calls.
@@ -20,242 +20,199 @@ pub struct State {
     pub calls: usize,
 }
 
-// What the records of a file give: what was read, or the refusal with the index that goes with it.
-#[derive(Clone, Copy)]
-pub struct Found {
-    pub verdict: Verdict,
-    pub index: usize,
-    pub state: State,
-}
-
 // 1 unless a file may have this length.
-pub(crate) fn test_length(length: usize) -> Verdict
+#[tactic(auto, unfolding(crate::specs::Scan::length_refusal))]
+pub(crate) fn test_length(length: usize) -> Result<(), Refusal>
     ensures { number_of result ≡ length_refusal length }
 {
     if length % Day::RECORD_LENGTH != 0 {
-        return Verdict::Refused(Refusal::Length);
+        return Err(Refusal::Length);
     }
     if Day::FILE_LENGTH < length {
-        return Verdict::Refused(Refusal::Length);
+        return Err(Refusal::Length);
     }
-    Verdict::Accepted
+    Ok(())
 }
 
 // 2 unless the bytes are 0 that only a leg uses.
-fn test_bare(r: Record) -> Verdict
+#[tactic(auto, unfolding(crate::specs::Scan::bare_refusal))]
+fn test_bare(r: Record) -> Result<(), Refusal>
     ensures { number_of result ≡ bare_refusal r }
 {
     if r.second != 0 {
-        return Verdict::Refused(Refusal::Record);
+        return Err(Refusal::Record);
     }
     if r.metres != 0 {
-        return Verdict::Refused(Refusal::Record);
+        return Err(Refusal::Record);
     }
-    Verdict::Accepted
+    Ok(())
 }
 
-// 2 unless the record's kind is one of the three and the bytes that must be 0 are.
-fn test_form(r: Record) -> Verdict
-    ensures { number_of result ≡ form_refusal r }
+// The kind of a record; 2 unless it is one of the three and the bytes that must be 0 are.
+#[tactic(auto, using(base::proofs::Numbers::handing), unfolding(crate::specs::Scan::form_refusal, base::specs::Tests::within))]
+fn test_form(r: Record) -> Result<Kind, Refusal>
+    ensures number { number_of result ≡ form_refusal r }
+    ensures kind { IfOk result (λ kind. kind_number kind ≡ r.kind) }
 {
-    if r.kind < codec::LEG {
-        return Verdict::Refused(Refusal::Record);
-    }
-    if codec::CALL < r.kind {
-        return Verdict::Refused(Refusal::Record);
-    }
+    let kind = Kind::try_from(r.kind)?;
     if r.pad != 0 {
-        return Verdict::Refused(Refusal::Record);
+        return Err(Refusal::Record);
     }
     if r.gap != 0 {
-        return Verdict::Refused(Refusal::Record);
+        return Err(Refusal::Record);
     }
-    if r.kind == codec::LEG {
-        return Verdict::Accepted;
+    if kind != Kind::Leg {
+        test_bare(r)?;
     }
-    test_bare(r)
+    Ok(kind)
 }
 
-// 3 unless the leg is the next in order; then 4.
-fn test_leg(s: State, r: Record) -> Verdict
-    ensures { number_of result ≡ leg_refusal s r }
-{
-    if s.cranes != 0 {
-        return Verdict::Refused(Refusal::Order);
-    }
-    if r.first as usize != s.first {
-        return Verdict::Refused(Refusal::Order);
-    }
-    if r.second as usize != s.second {
-        return Verdict::Refused(Refusal::Order);
-    }
-    if Road::PLACES <= r.second as usize {
-        return Verdict::Refused(Refusal::Order);
-    }
-    Road::test_metres(r.metres)
-}
-
-// Of a crane or a call: 3 where legs are missing; then 5; then 6 unless the cranes before it keep their rule.
-fn test_stop(s: State, r: Record, rule: bool) -> Verdict
-    ensures { number_of result ≡ stop_refusal s r rule }
-{
-    let place = r.first as usize;
-    let places = s.second;
-    if s.first != 0 {
-        return Verdict::Refused(Refusal::Order);
-    }
-    if places <= place {
-        return Verdict::Refused(Refusal::Place);
-    }
-    if !rule {
-        return Verdict::Refused(Refusal::Cranes);
-    }
-    Verdict::Accepted
-}
-
-// 3 for a crane after a call; then as a stop, with 6 for a crane too many.
-fn test_crane(s: State, r: Record) -> Verdict
-    ensures { number_of result ≡ crane_refusal s r }
-{
-    if s.calls != 0 {
-        return Verdict::Refused(Refusal::Order);
-    }
-    test_stop(s, r, s.cranes < Day::CRANES)
-}
-
-// As a stop, with 6 where no crane came before; then 7 for a call too many.
-fn test_call(s: State, r: Record) -> Verdict
-    ensures { number_of result ≡ call_refusal s r }
-{
-    let stop = test_stop(s, r, 0 < s.cranes);
-    let Verdict::Accepted = stop else {
-        return stop;
-    };
-    if Day::CALLS <= s.calls {
-        return Verdict::Refused(Refusal::Calls);
-    }
-    Verdict::Accepted
-}
-
-// The test of a record after those before it: 2, then by its kind.
-fn test_record(s: State, r: Record) -> Verdict
-    ensures { number_of result ≡ record_refusal s r }
-{
-    let form = test_form(r);
-    let Verdict::Accepted = form else {
-        return form;
-    };
-    if r.kind == codec::LEG {
-        return test_leg(s, r);
-    }
-    if r.kind == codec::CRANE {
-        return test_crane(s, r);
-    }
-    test_call(s, r)
-}
-
-// 3 where legs are missing at the end, then 6 without a crane.
-fn test_end(s: State) -> Verdict
-    ensures { number_of result ≡ end_refusal s }
-{
-    if s.first != 0 {
-        return Verdict::Refused(Refusal::Order);
-    }
-    if 0 < s.cranes {
-        return Verdict::Accepted;
-    }
-    Verdict::Refused(Refusal::Cranes)
-}
-
-// What has been read once the record was accepted.
-fn next(s: State, r: Record) -> State
-    requires { Limited s }
-    ensures { result ≡ after s r }
-{
-    let first = s.first;
-    let second = s.second;
-    let cranes = s.cranes;
-    let calls = s.calls;
-    if r.kind == codec::LEG {
-        if first + 1 == second {
-            return State {
-                first: 0,
-                second: second + 1,
-                cranes,
-                calls,
-            };
-        }
-        return State {
-            first: first + 1,
-            second,
-            cranes,
-            calls,
-        };
-    }
-    if r.kind == codec::CRANE {
-        return State {
-            first,
-            second,
-            cranes: cranes + 1,
-            calls,
-        };
-    }
-    State {
-        first,
-        second,
-        cranes,
-        calls: calls + 1,
-    }
-}
-
-// The records of a file, first to last, then the end.
-pub(crate) fn scan(bytes: &[u8]) -> Found
-    requires { length_refusal (length bytes.now) ≡ 0 }
-    ensures { refuse_at result.index (number_of result.verdict) (counted result.state) ≡ spec.scan 0 start (records bytes.now) }
-{
-    let mut s = State {
+impl State {
+    // Before the first record: the next leg is (0,1).
+    const START: State = State {
         first: 0,
         second: 1,
         cranes: 0,
         calls: 0,
     };
-    let count = bytes.len() / Day::RECORD_LENGTH;
-    let mut i = 0;
-    while i < count {
-        let r = codec::read(bytes, Day::RECORD_LENGTH * i);
-        let verdict = test_record(s, r);
-        let Verdict::Accepted = verdict else {
-            return Found {
-                verdict,
-                index: i,
-                state: s,
-            };
-        };
-        s = next(s, r);
-        i += 1;
+
+    // 3 unless the leg is the next in order; then 4.
+    #[tactic(auto, unfolding(crate::specs::Scan::leg_refusal))]
+    fn test_leg(self, r: Record) -> Result<(), Refusal>
+        ensures { number_of result ≡ leg_refusal self r }
+    {
+        if self.cranes != 0 {
+            return Err(Refusal::Order);
+        }
+        if usize::from(r.first) != self.first {
+            return Err(Refusal::Order);
+        }
+        if usize::from(r.second) != self.second {
+            return Err(Refusal::Order);
+        }
+        if Road::PLACES <= usize::from(r.second) {
+            return Err(Refusal::Order);
+        }
+        Road::test_metres(r.metres)
     }
-    Found {
-        verdict: test_end(s),
-        index: count,
-        state: s,
+
+    // Of a crane or a call: 3 where legs are missing; then 5; then 6 unless the cranes before it keep their rule.
+    #[tactic(auto, unfolding(crate::specs::Scan::stop_refusal))]
+    fn test_stop(self, r: Record, rule: bool) -> Result<(), Refusal>
+        ensures { number_of result ≡ stop_refusal self r rule }
+    {
+        if self.first != 0 {
+            return Err(Refusal::Order);
+        }
+        if self.second <= usize::from(r.first) {
+            return Err(Refusal::Place);
+        }
+        if !rule {
+            return Err(Refusal::Cranes);
+        }
+        Ok(())
+    }
+
+    // 3 for a crane after a call; then as a stop, with 6 for a crane too many.
+    #[tactic(auto, using(base::proofs::Numbers::handing), unfolding(crate::specs::Scan::crane_refusal))]
+    fn test_crane(self, r: Record) -> Result<(), Refusal>
+        ensures { number_of result ≡ crane_refusal self r }
+    {
+        if self.calls != 0 {
+            return Err(Refusal::Order);
+        }
+        self.test_stop(r, self.cranes < Day::CRANES)
+    }
+
+    // As a stop, with 6 where no crane came before; then 7 for a call too many.
+    #[tactic(auto, using(base::proofs::Numbers::handing), unfolding(crate::specs::Scan::call_refusal))]
+    fn test_call(self, r: Record) -> Result<(), Refusal>
+        ensures { number_of result ≡ call_refusal self r }
+    {
+        self.test_stop(r, 0 < self.cranes)?;
+        if Day::CALLS <= self.calls {
+            return Err(Refusal::Calls);
+        }
+        Ok(())
+    }
+
+    // The kind of a record after those before it: 2, then by the kind.
+    #[tactic(auto, using(base::proofs::Numbers::handing), unfolding(crate::specs::Scan::record_refusal))]
+    fn test_record(self, r: Record) -> Result<Kind, Refusal>
+        ensures number { number_of result ≡ record_refusal self r }
+        ensures kind { IfOk result (λ kind. kind_number kind ≡ r.kind) }
+    {
+        let kind = test_form(r)?;
+        match kind {
+            Kind::Leg => self.test_leg(r)?,
+            Kind::Crane => self.test_crane(r)?,
+            Kind::Call => self.test_call(r)?,
+        }
+        Ok(kind)
+    }
+
+    // 3 where legs are missing at the end, then 6 without a crane.
+    #[tactic(auto, unfolding(crate::specs::Scan::end_refusal))]
+    fn test_end(self) -> Result<(), Refusal>
+        ensures { number_of result ≡ end_refusal self }
+    {
+        if self.first != 0 {
+            return Err(Refusal::Order);
+        }
+        if self.cranes == 0 {
+            return Err(Refusal::Cranes);
+        }
+        Ok(())
+    }
+
+    // What has been read once a record of a kind was accepted.
+    #[tactic(auto, unfolding(crate::specs::Scan::after, crate::specs::Scan::after_leg))]
+    fn next(self, kind: Kind) -> State
+        requires { Limited self }
+        ensures { (r : Record) → r.kind ≡ kind_number kind → result ≡ after self r }
+    {
+        match kind {
+            Kind::Leg if self.first + 1 == self.second => State {
+                first: 0,
+                second: self.second + 1,
+                ..self
+            },
+            Kind::Leg => State {
+                first: self.first + 1,
+                ..self
+            },
+            Kind::Crane => State {
+                cranes: self.cranes + 1,
+                ..self
+            },
+            Kind::Call => State {
+                calls: self.calls + 1,
+                ..self
+            },
+        }
     }
 }
 
-// The reading of a file that is refused.
-pub(crate) fn refused(verdict: Verdict, index: usize) -> Reading
-    ensures { answer result ≡ refusal (number_of verdict) index }
+// The records of a file, first to last, then the end.
+pub(crate) fn scan(bytes: &[u8]) -> Result<State, FileRefusal>
+    requires { length_refusal (length bytes.now) ≡ 0 }
+    ensures { scanned result ≡ spec.scan 0 start (records bytes.now) }
 {
-    Reading {
-        verdict,
-        index,
-        day: Day {
-            places: 0,
-            cranes: 0,
-            calls: 0,
-            starts: [0; Day::CRANES],
-            requests: [0; Day::CALLS],
-        },
-        table: [0; Road::LEGS],
+    let mut state = State::START;
+    let count = bytes.len() / Day::RECORD_LENGTH;
+    for index in 0..count {
+        let r = codec::read(bytes, Day::RECORD_LENGTH * index);
+        match state.test_record(r) {
+            Ok(kind) => state = state.next(kind),
+            Err(refusal) => return Err(FileRefusal { refusal, index }),
+        }
+    }
+    match state.test_end() {
+        Ok(()) => Ok(state),
+        Err(refusal) => Err(FileRefusal {
+            refusal,
+            index: count,
+        }),
     }
 }
 

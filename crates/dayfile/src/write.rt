@@ -4,7 +4,8 @@ ghost use Rattle.base.specs.Lists.{splice};
 ghost use Rattle.road.specs.Table.{metres_of};
 ghost use Rattle.dayfile.specs.File.{Room, day_bytes};
 
-use crate::{Day, codec, legs, stops};
+use crate::codec::Kind;
+use crate::{Day, legs, stops};
 use road::Road;
 
 // The records of a day, into the front of the buffer.
@@ -19,6 +20,6 @@ pub(crate) fn put(day: Day, table: &[u32], out: &mut [u8])
     let requests = day.requests;
     let legs = Road::legs(places);
     legs::put(table, places, out);
-    stops::put(codec::CRANE, &starts[..cranes], out, legs);
-    stops::put(codec::CALL, &requests[..calls], out, legs + cranes);
+    stops::put(Kind::Crane, &starts[..cranes], out, legs);
+    stops::put(Kind::Call, &requests[..calls], out, legs + cranes);
 }

@@ -7,17 +7,14 @@ use Rattle.base.proofs.Tests.{begun, turned, ended, below_fails}
 use Rattle.dayfile.proofs.Day.test_stops.Invariants.{rule}
 use Rattle.dayfile.proofs.Day.test_stops.Goals as goal
 
-pub loop-i-init : goal.loop-i-init
-loop-i-init c = begun _ _
+pub loop-place-init : goal.loop-place-init
+loop-place-init c = begun _ _
 
-pub overflow_cast-stops : goal.overflow_cast-stops
-overflow_cast-stops c = omega (arith, c.shared_slice_known-1.given c.loop-i.i)
+pub returns-then-places-from : goal.returns-then-places-from
+returns-then-places-from c = rw (below_fails (rule c.args.places c.args.stops.now) (length c.args.stops.now) c.loop-place.place-index c.loop-place-test.true (rw c.from.ensures at (le-ltb _ _ c.if-places-from.true)))
 
-pub returns-then-places-stops : goal.returns-then-places-stops
-returns-then-places-stops c = rw (below_fails (rule c.args.places c.args.stops.now) (length c.args.stops.now) c.loop-i.i c.loop-i-test.true (le-ltb _ _ c.if-places-stops.true))
-
-pub loop-i-preserved : goal.loop-i-preserved
-loop-i-preserved c = turned _ _ c.loop-i.i c.loop-i.invariant c.loop-i-test.true (lt-ltb _ _ c.if-places-stops.false)
+pub loop-place-preserved : goal.loop-place-preserved
+loop-place-preserved c = turned _ _ c.loop-place.place-index c.loop-place.invariant c.loop-place-test.true (rw c.from.ensures at (lt-ltb _ _ c.if-places-from.false))
 
 pub returns : goal.returns
-returns c = rw (ended _ _ c.loop-i.i c.loop-i.invariant c.loop-i-test.false)
+returns c = rw (ended _ _ c.loop-place.place-index c.loop-place.invariant c.loop-place-test.false)

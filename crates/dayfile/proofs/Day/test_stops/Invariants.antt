@@ -1,6 +1,6 @@
 -- `dayfile::Day::test_stops` meets its contract: the loop passes the stops whose place is below the number of places.
 -- Assumes nothing.
-use Prim.Native.Nat.{ℕ, ◌-◌}
+use Prim.Native.Nat.{ℕ}
 use mathlib.Core.Bool.{Bool}
 use mathlib.Core.List.{List}
 use lib.Dec.{ltb}
@@ -12,8 +12,5 @@ use Rattle.dayfile.proofs.Day.test_stops.Given as goal
 abbrev pub rule : ℕ → List ℕ → ℕ → Bool
 rule places stops i = ltb (get_or stops i 0) places
 
-abbrev pub invariant-loop-i : goal.invariant-loop-i
-invariant-loop-i l = Passed (length l.stops) (rule l.places l.stops) l.i
-
-abbrev pub decreases-loop-i : goal.decreases-loop-i
-decreases-loop-i l = length l.stops - l.i
+abbrev pub invariant-loop-place : goal.invariant-loop-place
+invariant-loop-place l = Passed (length l.stops) (rule l.places l.stops) l.place-index

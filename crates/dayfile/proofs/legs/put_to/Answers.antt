@@ -31,7 +31,7 @@ put-requires c = let h = counted (goal.at.put-requires c).After-legs-from in sea
 
 pub loop-u-preserved : goal.loop-u-preserved
 loop-u-preserved c = put_one_turned _ _ _ _ (rw (counted (goal.at.loop-u-preserved c).After-legs-from) c.requires.1) _ _ _ _ c.loop-u.invariant (omega arith)
-    (ap (leg _ _) (c.metres.ensures ∙ entry_in _ _ _ (omega arith) (omega arith))) c.put.ensures
+    (ap (leg _ _) (c.metres.ensures ∙ entry_in _ _ _ (omega arith) (omega arith))) (rw c.from.ensures at c.put.ensures)
 
 pub returns : goal.returns
 returns c = rw (← counted (goal.at.returns c).After-legs-from) (splice_ended _ _ _ _ _ _ c.loop-u.invariant c.loop-u-test.false)

@@ -34,8 +34,8 @@ loop-i-init c = fill_begun _ _ _
 pub overflow_mul-i : goal.overflow_mul-i
 overflow_mul-i c = let h = few (goal.at.overflow_mul-i c).After-legs-legs in search rules
 
-pub read-r-requires : goal.read-r-requires
-read-r-requires c = let h = counted (goal.at.read-r-requires c).After-legs-legs in search rules
+pub read-requires : goal.read-requires
+read-requires c = let h = counted (goal.at.read-requires c).After-legs-legs in search rules
 
 pub offset_bounds-table-i : goal.offset_bounds-table-i
 offset_bounds-table-i c = let h = few (goal.at.offset_bounds-table-i c).After-legs-legs in search rules
@@ -45,7 +45,7 @@ bounds-table-i c = let h = few (goal.at.bounds-table-i c).After-legs-legs in sea
 
 pub loop-i-preserved : goal.loop-i-preserved
 loop-i-preserved c = fill_turned _ _ _ _ _ _ (few (goal.at.loop-i-preserved c).After-legs-legs) c.loop-i.invariant c.loop-i-test.true
-    (metres_told _ _ _ _ c.requires.1 (counted (goal.at.loop-i-preserved c).After-legs-legs) c.loop-i-test.true c.read-r.ensures)
+    (metres_told _ _ _ _ c.requires.1 (counted (goal.at.loop-i-preserved c).After-legs-legs) c.loop-i-test.true c.read.ensures)
 
 pub returns : goal.returns
 unfolding table_of

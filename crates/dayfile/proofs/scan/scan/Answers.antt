@@ -5,15 +5,16 @@ use mathlib.Core.List.{List}
 use mathlib.Core.Path.{◌≡◌, refl, sym, ap, subst⁻¹, ◌∙◌}
 use lib.ListN.{length, get_or, drop}
 use native.Mathlib.Omega.{arith}
+use Rattle.base.specs.declared.Refusal.{Refusal}
+use Rattle.base.specs.Numbers.{refusal_number}
 use Rattle.base.proofs.Numbers.{refused_number}
-use Rattle.base.specs.Numbers.{number_of}
 use Rattle.dayfile.specs.declared.codec.Record.{Record}
 use Rattle.dayfile.specs.declared.scan.State.{State}
 use Rattle.dayfile.specs.Codec.{decode, records}
 use Rattle.dayfile.specs.Legs.{none}
-use Rattle.dayfile.specs.Scan.{start, after, record_refusal, end_refusal, counted, refuse_at, scan}
+use Rattle.dayfile.specs.Scan.{start, after, record_refusal, end_refusal, refused, counted, refuse_at, scan}
 use Rattle.dayfile.proofs.codec.Laws.{length-records, record_at}
-use Rattle.dayfile.proofs.scan.Laws.{progress_start, progress_after, accepted, scan-stops, scan_goes_on, scan_ends}
+use Rattle.dayfile.proofs.scan.Laws.{progress_start, progress_after, accepted, refuses, scan-stops, scan_goes_on, scan_ends}
 use Rattle.dayfile.proofs.scan.scan.Invariants.{Scanned}
 use Rattle.dayfile.proofs.scan.scan.Goals as goal
 
@@ -24,8 +25,10 @@ module _ (bs : List ℕ) (s : State) (i : ℕ) (r : Record) (p : Scanned bs s i)
   inside : i < length (records bs)
   inside = rw (length-records bs) lt
 
-  stopped : (n : ℕ) → n ≡ record_refusal s r → (n ≡ 0 → ⊥) → refuse_at i n (counted s) ≡ scan 0 start (records bs)
-  stopped n q h = scan-stops (records bs) i s r inside here n (counted s) q h ∙ p.same
+  stopped : (x : Refusal) → refusal_number x ≡ record_refusal s r → refused (refusal_number x) i ≡ scan 0 start (records bs)
+  stopped x q =
+      sym (refuses i (refusal_number x) (counted s) (refused_number x))
+      ∙ scan-stops (records bs) i s r inside here (refusal_number x) (counted s) q (refused_number x) ∙ p.same
 
   turned : (t : State) → record_refusal s r ≡ 0 → t ≡ after s r → Scanned bs t (i + 1)
   turned t q f =
@@ -42,19 +45,25 @@ ended bs s i p h =
     let e : length bs / 12 ≡ i = omega arith in
     rw e (sym (scan_ends (records bs) i s (rw (length-records bs) h)) ∙ p.same)
 
-pub loop-i-init : goal.loop-i-init
-loop-i-init c = record { most = zero-le; kept = progress_start; same = refl }
+pub loop-index-init : goal.loop-index-init
+loop-index-init c = record { most = zero-le; kept = progress_start; same = refl }
 
-pub returns-in_default : goal.returns-in_default
-returns-in_default c = stopped _ c.loop-i.s c.loop-i.i c.read-r.result c.loop-i.invariant (omega arith) c.read-r.ensures _
-    c.test_record-verdict.ensures (refused_number _ c.in_default.field-0 c.in_default.is)
+pub returns-in-Err : goal.returns-in-Err
+returns-in-Err c = stopped _ c.loop-index.state c.loop-index.index c.read-r.result c.loop-index.invariant (omega arith) c.read-r.ensures _ c.in-Err.ensures.number
 
-pub next-s-requires : goal.next-s-requires
-next-s-requires c = record { first = omega arith; second = c.loop-i.invariant.kept.places; cranes = c.loop-i.invariant.kept.cranes; calls = c.loop-i.invariant.kept.calls }
+pub next-state-requires : goal.next-state-requires
+next-state-requires c = let k = c.loop-index.invariant.kept in
+    record { first = omega arith; second = k.places; cranes = k.cranes; calls = k.calls }
 
-pub loop-i-preserved : goal.loop-i-preserved
-loop-i-preserved c = turned _ c.loop-i.s c.loop-i.i c.read-r.result c.loop-i.invariant (omega arith)
-    c.read-r.ensures c.next-s.result (sym c.test_record-verdict.ensures ∙ ap number_of c.in-Accepted.is) c.next-s.ensures
+pub loop-index-preserved : goal.loop-index-preserved
+loop-index-preserved c = turned _ c.loop-index.state c.loop-index.index c.read-r.result c.loop-index.invariant (omega arith)
+    c.read-r.ensures c.next-state.result (sym c.in-Ok.ensures.number) (c.next-state.ensures c.read-r.result (sym c.in-Ok.ensures.kind))
 
-pub returns : goal.returns
-returns c = rw c.test_end.ensures (ended _ c.loop-i.s c.loop-i.i c.loop-i.invariant c.loop-i-test.false)
+pub returns-in-Ok-test_end : goal.returns-in-Ok-test_end
+returns-in-Ok-test_end c = ap (λ (n : ℕ). refuse_at (length c.args.bytes.now / 12) n (counted c.loop-index.state)) c.in-Ok-test_end.ensures
+    ∙ ended _ c.loop-index.state c.loop-index.index c.loop-index.invariant c.loop-index-test.false
+
+pub returns-in-Err-test_end : goal.returns-in-Err-test_end
+returns-in-Err-test_end c = sym (refuses _ _ (counted c.loop-index.state) (refused_number c.in-Err-test_end.refusal))
+    ∙ ap (λ (n : ℕ). refuse_at (length c.args.bytes.now / 12) n (counted c.loop-index.state)) c.in-Err-test_end.ensures
+    ∙ ended _ c.loop-index.state c.loop-index.index c.loop-index.invariant c.loop-index-test.false

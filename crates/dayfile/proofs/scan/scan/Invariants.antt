@@ -1,6 +1,6 @@
 -- `dayfile::scan::scan` meets its contract: the scan from the record at hand on gives what the scan of the whole file gives.
 -- Assumes nothing.
-use Prim.Native.Nat.{ℕ, ◌-◌, ◌/◌, ◌≤◌}
+use Prim.Native.Nat.{ℕ, ◌/◌, ◌≤◌}
 use mathlib.Core.List.{List}
 use mathlib.Core.Path.{◌≡◌}
 use lib.ListN.{length, drop}
@@ -16,8 +16,5 @@ pub record Scanned (bs : List ℕ) (s : State) (i : ℕ) : Type 0 where
   pub kept : Progress s i
   pub same : scan i s (drop i (records bs)) ≡ scan 0 start (records bs)
 
-abbrev pub invariant-loop-i : goal.invariant-loop-i
-invariant-loop-i l = Scanned l.bytes l.s l.i
-
-abbrev pub decreases-loop-i : goal.decreases-loop-i
-decreases-loop-i l = length l.bytes / 12 - l.i
+abbrev pub invariant-loop-index : goal.invariant-loop-index
+invariant-loop-index l = Scanned l.bytes l.state l.index

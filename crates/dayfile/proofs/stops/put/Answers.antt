@@ -11,7 +11,7 @@ pub loop-i-init : goal.loop-i-init
 loop-i-init c = put_one_begun _ _ _ _ c.requires
 
 pub loop-i-preserved : goal.loop-i-preserved
-loop-i-preserved c = put_one_turned _ _ _ _ c.requires _ _ _ _ c.loop-i.invariant (omega arith) refl c.put.ensures
+loop-i-preserved c = put_one_turned _ _ _ _ c.requires _ _ _ _ c.loop-i.invariant (omega arith) refl (rw c.from.ensures at c.put.ensures)
 
 pub returns : goal.returns
 returns c = splice_ended _ _ _ _ _ _ c.loop-i.invariant (omega arith) ∙ rw (map_by_index (stop _) _ 0)
