@@ -1,21 +1,18 @@
 -- What is promised of the table of a date, for every number of places, two tables, window and date.
 -- Assumes nothing.
 use Prim.Native.Nat.{ℕ, suc, ◌+◌, ◌%◌, ◌≤◌}
-use mathlib.Core.Bool.{Bool, true, false, ◌&&◌, ◌||◌, cond, false≢true, and-eq-true_iff}
+use mathlib.Core.Bool.{Bool, true, false, ◌&&◌, cond, and-eq-true_iff}
 use mathlib.Core.List.{[]}
-use mathlib.Core.Logic.{◌⊎◌, inl, inr, ⊎_elim, ◌↔◌}
+use mathlib.Core.Logic.{◌⊎◌, ◌↔◌}
 use mathlib.Core.Path.{◌≡◌, refl, sym, ap, ◌∙◌}
-use borrow.Author.Tests.{eqb-true, eq-eqb}
 use lib.ListN.{length, drop_of_length-le}
-use native.Mathlib.Decide.{ℕ_discrete}
-use native.Mathlib.Nat.{le_of_eq, le_of_lt}
+use native.Mathlib.Nat.{le_of_eq}
 use native.Mathlib.Omega.{arith}
 use Rattle.std.proofs.lemmas.Grind.{common_steps}
 use Rattle.std.proofs.lemmas.Bool.Decides.{nat_tests}
 use Rattle.base.specs.Numbers.{unless, ◌then◌}
 use Rattle.base.specs.Tests.{within}
 use Rattle.base.proofs.Numbers.{then_assoc, then_zero, zeros_told}
-use Rattle.base.proofs.Tests.{by_order, within_least, within_most}
 use Rattle.road.specs.Table.{leg_count, run_refusal, legs_refusal, triangle_refusal, table_refusal}
 use Rattle.road.proofs.Table.{run_accepted}
 use Rattle.season.specs.declared.MonthDay.{MonthDay}
