@@ -1,11 +1,10 @@
 -- What is found by the index of a leg and by its pair of places, for every input.
-use Rattle.std.specs.Prelude.{ℕ, ◌<◌, ◌&&◌, ◌≡◌, ltb, get_or}
-use Rattle.base.specs.Numbers.{unless, unless_refused, number_of}
+use Rattle.std.specs.Prelude.{ℕ, ◌<◌, ◌&&◌, ◌≡◌, ltb, get_or, Result, Ok, Err}
+use Rattle.base.specs.declared.Refusal.{Refusal}
+use Rattle.base.specs.Numbers.{refusal_number, unless, unless_refused}
 use Rattle.road.specs.Table.{Table, most_places, most_legs, leg_index, metres_of}
 use Rattle.legorder.specs.declared.Pair.{Pair}
 use Rattle.legorder.specs.Pairs.{leg_pair, pairs}
-use Rattle.pairs.specs.declared.IndexFound.{IndexFound}
-use Rattle.pairs.specs.declared.PairFound.{PairFound}
 
 -- paper 7: "An index above 2,015 .. gives 5"
 abbrev pub index_refusal : ℕ → ℕ
@@ -20,8 +19,9 @@ pub record PairTold : Type 0 where
   pub number : ℕ
   pub pair : Pair
 
-abbrev pub pair_found : PairFound → PairTold
-pair_found r = record { number = number_of r.verdict; pair = r.pair }
+abbrev pub pair_found : Result Pair Refusal → PairTold
+pair_found (Ok pair) = record { number = 0; pair = pair }
+pair_found (Err r) = record { number = refusal_number r; pair = leg_pair 0 0 }
 
 -- paper 7: "with a lookup by index"
 unfoldable pub pair_at_of : ℕ → PairTold
@@ -33,8 +33,9 @@ pub record IndexTold : Type 0 where
   pub number : ℕ
   pub index : ℕ
 
-abbrev pub index_found : IndexFound → IndexTold
-index_found r = record { number = number_of r.verdict; index = r.index }
+abbrev pub index_found : Result ℕ Refusal → IndexTold
+index_found (Ok index) = record { number = 0; index = index }
+index_found (Err r) = record { number = refusal_number r; index = 0 }
 
 -- paper 7: "and its inverse"
 unfoldable pub index_of : ℕ → ℕ → IndexTold

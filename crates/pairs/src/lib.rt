@@ -19,25 +19,12 @@ ghost use Rattle.road.specs.Table.{most_places};
 ghost use Rattle.legorder.specs.Pairs.{pairs, columns_of};
 ghost use Rattle.pairs.specs.Lookup.{pair_found, pair_at_of, index_found, index_of};
 
-use base::Verdict;
+use base::Refusal;
 use legorder::{Columns, Pair};
 use road::Road;
 
-// The pair at an index; or the refusal and zeros.
-#[derive(Clone, Copy)]
-pub struct PairFound {
-    pub verdict: Verdict,
-    pub pair: Pair,
-}
-
-// The index of a pair; or the refusal and 0.
-#[derive(Clone, Copy)]
-pub struct IndexFound {
-    pub verdict: Verdict,
-    pub index: usize,
-}
-
-// The constant table.
+// The constant table. Two columns and no array of `Pair`: `columns_of` in the contract has them, and so has the text that `pairtable` prints.
+#[tactic(auto, unfolding(road::specs::Table::in_order, base::specs::Lists::up_to))]
 pub fn held() -> Columns
     ensures { result ≡ columns_of (pairs most_places) }
 {
@@ -48,42 +35,23 @@ pub fn held() -> Columns
 }
 
 // The pair of the leg with an index.
-pub fn pair_at(index: usize) -> PairFound
+#[tactic(auto, unfolding(crate::specs::Lookup::pair_at_of))]
+pub fn pair_at(index: usize) -> Result<Pair, Refusal>
     ensures { pair_found result ≡ pair_at_of index }
 {
-    let tested = lookup::test_index(index);
-    let Verdict::Accepted = tested else {
-        return PairFound {
-            verdict: tested,
-            pair: Pair {
-                first: 0,
-                second: 0,
-            },
-        };
-    };
+    lookup::test_index(index)?;
     let columns = held();
-    let first = columns.firsts[index];
-    let second = columns.seconds[index];
-    PairFound {
-        verdict: Verdict::Accepted,
-        pair: Pair { first, second },
-    }
+    Ok(Pair {
+        first: columns.firsts[index],
+        second: columns.seconds[index],
+    })
 }
 
 // The index of the leg with a pair of places.
-pub fn index_of(first: u16, second: u16) -> IndexFound
+#[tactic(auto, using(road::proofs::Order::legs_counted, road::proofs::Order::legs_most), unfolding(crate::specs::Lookup::index_of))]
+pub fn index_of(first: u16, second: u16) -> Result<usize, Refusal>
     ensures { index_found result ≡ index_of first second }
 {
-    let tested = lookup::test_pair(first, second);
-    let Verdict::Accepted = tested else {
-        return IndexFound {
-            verdict: tested,
-            index: 0,
-        };
-    };
-    let index = Road::legs(second as usize) + first as usize;
-    IndexFound {
-        verdict: Verdict::Accepted,
-        index,
-    }
+    lookup::test_pair(first, second)?;
+    Ok(Road::legs(usize::from(second)) + usize::from(first))
 }

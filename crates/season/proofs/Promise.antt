@@ -1,19 +1,18 @@
 -- What is promised of the table of a date, for every number of places, two tables, window and date.
 -- Assumes nothing.
 use Prim.Native.Nat.{ℕ, suc, ◌+◌, ◌%◌, ◌≤◌}
-use mathlib.Core.Bool.{Bool, true, false, ◌&&◌, ◌||◌, cond, false≢true, and-eq-true_iff}
+use mathlib.Core.Bool.{Bool, true, false, ◌&&◌, cond, and-eq-true_iff}
 use mathlib.Core.List.{[]}
-use mathlib.Core.Logic.{◌⊎◌, inl, inr, ⊎_elim, ◌↔◌}
+use mathlib.Core.Logic.{◌⊎◌, ◌↔◌}
 use mathlib.Core.Path.{◌≡◌, refl, sym, ap, ◌∙◌}
-use borrow.Author.Tests.{eqb-true, eq-eqb}
 use lib.ListN.{length, drop_of_length-le}
-use native.Mathlib.Decide.{ℕ_discrete}
-use native.Mathlib.Nat.{le_of_eq, le_of_lt}
+use native.Mathlib.Nat.{le_of_eq}
 use native.Mathlib.Omega.{arith}
+use Rattle.std.proofs.lemmas.Grind.{common_steps}
+use Rattle.std.proofs.lemmas.Bool.Decides.{nat_tests}
 use Rattle.base.specs.Numbers.{unless, ◌then◌}
 use Rattle.base.specs.Tests.{within}
 use Rattle.base.proofs.Numbers.{then_assoc, then_zero, zeros_told}
-use Rattle.base.proofs.Tests.{by_order, within_least, within_most}
 use Rattle.road.specs.Table.{leg_count, run_refusal, legs_refusal, triangle_refusal, table_refusal}
 use Rattle.road.proofs.Table.{run_accepted}
 use Rattle.season.specs.declared.MonthDay.{MonthDay}
@@ -22,8 +21,8 @@ use Rattle.season.specs.declared.Date.{Date}
 use Rattle.season.specs.Calendar.{first_year, last_year, leap_year, month_days, real_day, day_of, date_rule, calendar_refusal}
 use Rattle.season.specs.Windows.{no_later, inside_of, Earlier}
 use Rattle.season.specs.Season.{Lent, tables_refusal, season_refusal, empty_part, legs_on}
-use Rattle.season.proofs.calendar.Laws.{common_fourth, leap_fourth, leap_hundredth, no_month_zero, no_month, real_longest}
-use Rattle.season.proofs.windows.Laws.{later_told, later_holds, no_later-told, no_later_holds, no_later_self, no_later_both, inside_between, inside_over}
+use Rattle.season.proofs.calendar.Laws.{real_longest}
+use Rattle.season.proofs.windows.Laws.{no_later_self, no_later_both, inside_between}
 
 -- ---- which days a window holds
 
@@ -36,12 +35,8 @@ module _ (window : Window) where
 
   -- "both inside the window"
   pub edges_inside : (inside_of window first ≡ true) × (inside_of window last ≡ true)
-  unfolding inside_of
-  edges_inside = rw (no_later_self first, no_later_self last) (pick (no_later first last))
-    where
-      pick : (b : Bool) → (cond b (true && b) (true || b) ≡ true) × (cond b (b && true) (b || true) ≡ true)
-      pick true = (refl, refl)
-      pick false = (refl, refl)
+  unfolding inside_of no_later
+  edges_inside = grind (arith, nat_tests)
 
   -- "equal ones hold that date alone"
   pub one_date : first ≡ last → (at : MonthDay) → (inside_of window at ≡ true) ↔ (at ≡ first)
@@ -58,56 +53,20 @@ module _ (window : Window) where
   -- a first that is no later than the last: inside are exactly the days that are neither earlier than the first nor later than the last
   pub between_the_edges : (Earlier last first → ⊥) → (at : MonthDay)
       → (inside_of window at ≡ true) ↔ ((Earlier at first → ⊥) × (Earlier last at → ⊥))
-  between_the_edges ordered at = (told, held)
-    where
-      asked : inside_of window at ≡ (no_later first at && no_later at last)
-      asked = inside_between window at (no_later_holds first last ordered)
-
-      told : inside_of window at ≡ true → (Earlier at first → ⊥) × (Earlier last at → ⊥)
-      told h =
-          let both = (and-eq-true_iff (no_later first at) (no_later at last)).0 (sym asked ∙ h) in
-          (no_later-told first at both.0, no_later-told at last both.1)
-
-      held : (Earlier at first → ⊥) × (Earlier last at → ⊥) → inside_of window at ≡ true
-      held n = asked ∙ rw (no_later_holds first at n.0) (no_later_holds at last n.1)
+  unfolding inside_of no_later
+  between_the_edges ordered at = grind (arith, nat_tests)
 
   -- "A first later than the last runs over the year's end": outside are exactly the days strictly between the last and the first
   pub over_the_year : Earlier last first → (at : MonthDay) → (inside_of window at ≡ false) ↔ (Earlier last at × Earlier at first)
-  over_the_year over at = (told, held)
-    where
-      asked : inside_of window at ≡ (no_later first at || no_later at last)
-      asked = inside_over window at (later_holds first last over)
-
-      neither : (a b : Bool) → (a || b) ≡ false → (a ≡ false) × (b ≡ false)
-      neither true b h = absurd (false≢true (sym h))
-      neither false b h = (refl, h)
-
-      told : inside_of window at ≡ false → Earlier last at × Earlier at first
-      told h =
-          let both = neither (no_later first at) (no_later at last) (sym asked ∙ h) in
-          (later_told at last both.1, later_told first at both.0)
-
-      held : Earlier last at × Earlier at first → inside_of window at ≡ false
-      held both = asked ∙ rw (later_holds first at both.1) (later_holds at last both.0)
+  unfolding inside_of no_later
+  over_the_year over at = grind (arith, nat_tests)
 
 -- ---- the calendar
 
 -- the Gregorian rule
 pub leap_rule : (y : ℕ) → (leap_year y ≡ true) ↔ ((y % 4 ≡ 0) × ((y % 100 ≡ 0 → ⊥) ⊎ (y % 400 ≡ 0)))
-leap_rule y = (told, held)
-  where
-    by_remainders : Dec (y % 4 ≡ 0) → Dec (y % 100 ≡ 0) → leap_year y ≡ true → (y % 4 ≡ 0) × ((y % 100 ≡ 0 → ⊥) ⊎ (y % 400 ≡ 0))
-    by_remainders (no n) _ h = absurd (false≢true (sym (common_fourth y n) ∙ h))
-    by_remainders (yes e) (no n) h = (e, inl n)
-    by_remainders (yes e) (yes c) h = (e, inr (eqb-true (y % 400) 0 (sym (leap_hundredth y e c) ∙ h)))
-
-    told : leap_year y ≡ true → (y % 4 ≡ 0) × ((y % 100 ≡ 0 → ⊥) ⊎ (y % 400 ≡ 0))
-    told = by_remainders (ℕ_discrete (y % 4) 0) (ℕ_discrete (y % 100) 0)
-
-    held : (y % 4 ≡ 0) × ((y % 100 ≡ 0 → ⊥) ⊎ (y % 400 ≡ 0)) → leap_year y ≡ true
-    held h =
-        ⊎_elim (leap_fourth y h.0)
-        (λ (q : y % 400 ≡ 0). leap_hundredth y h.0 (omega arith) ∙ eq-eqb (y % 400) 0 q) h.1
+unfolding leap_year
+leap_rule y = grind (arith, nat_tests)
 
 -- years with the same remainders are alike
 leap_same : (y z : ℕ) → y % 4 ≡ z % 4 → y % 100 ≡ z % 100 → y % 400 ≡ z % 400 → leap_year y ≡ leap_year z
@@ -129,14 +88,8 @@ leap_day y = ap (λ (real : Bool). within first_year last_year y && real) (twent
 
 -- the month of a real day is one of twelve
 pub real_month : (leap : Bool) (at : MonthDay) → real_day leap at ≡ true → (1 ≤ at.month) × (at.month ≤ 12)
-unfolding real_day
-real_month leap at h = (
-  by_order 1 at.month le_of_lt le_of_eq (λ l. absurd (none (no_month_zero leap at.month l))),
-  by_order at.month 12 le_of_lt le_of_eq (λ l. absurd (none (no_month leap at.month l))),
-)
-  where
-    none : month_days leap at.month ≡ 0 → ⊥
-    none e = let low = within_least 1 _ at.day h in let high = within_most 1 (month_days leap at.month) at.day h in omega arith
+unfolding real_day month_days within
+real_month leap at h = grind (arith, nat_tests, common_steps)
 
 -- "an edge being real if a leap year has it"
 pub edge_real : (date : Date) → within first_year last_year date.year ≡ true → leap_year date.year ≡ true

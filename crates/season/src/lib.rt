@@ -10,12 +10,13 @@ mod windows;
 
 ghost use Rattle.std.specs.Prelude.{◌≡◌};
 ghost use Rattle.base.specs.Numbers.{number_of};
+ghost use Rattle.season.specs.Calendar.{day_of};
 ghost use Rattle.season.specs.Season.{season_refusal, legs_on};
 
-use base::Verdict;
+use base::Refusal;
 
-// A month and a day of it, in any year.
-#[derive(Clone, Copy)]
+// A month and a day of it, in any year; the order is by month, then by day.
+#[derive(Clone, Copy, PartialEq, Eq, PartialOrd, Ord)]
 pub struct MonthDay {
     pub month: u8,
     pub day: u8,
@@ -44,20 +45,37 @@ impl Date {
     pub const LAST_YEAR: u16 = 9_999;
 }
 
+// The month and the day of a date.
+impl From<Date> for MonthDay {
+    ghost from_gives = { λ date at. at ≡ day_of date };
+
+    fn from(date: Date) -> MonthDay {
+        MonthDay {
+            month: date.month,
+            day: date.day,
+        }
+    }
+}
+
 // The test of what the legs of a date are chosen from: 14 for the date and the window's edges, then 3, 4 and 8 for the ordinary table, then
 // for the thaw table. It alone tells a refusal from a table of one place, which has no legs.
-pub fn test(places: usize, ordinary: &[u32], thaw: &[u32], window: Window, date: Date) -> Verdict
+#[tactic(auto, using(base::proofs::Numbers::handing))]
+pub fn test(
+    places: usize,
+    ordinary: &[u32],
+    thaw: &[u32],
+    window: Window,
+    date: Date,
+) -> Result<(), Refusal>
     ensures { number_of result ≡ season_refusal places ordinary.now thaw.now window date }
 {
-    let dated = calendar::test(window, date);
-    let Verdict::Accepted = dated else {
-        return dated;
-    };
+    calendar::test(window, date)?;
     tables::test(places, ordinary, thaw)
 }
 
 // The legs of a date: the lent thaw table itself where the date is inside the window, else the lent ordinary table itself; an empty part of
 // the ordinary one where the test refuses. A book keeps no note of its legs: to lend it the same all day is the caller's part.
+#[tactic(auto, unfolding(crate::specs::Season::legs_on))]
 pub fn legs<'a>(
     places: usize,
     ordinary: &'a [u32],
@@ -67,15 +85,10 @@ pub fn legs<'a>(
 ) -> &'a [u32]
     ensures { result ≡ legs_on places ordinary.entry thaw.entry window date }
 {
-    let none = &ordinary[..0];
-    let tested = test(places, ordinary, thaw, window, date);
-    let Verdict::Accepted = tested else {
-        return none;
-    };
-    let day = MonthDay {
-        month: date.month,
-        day: date.day,
-    };
-    let inside = windows::inside(window, day);
-    tables::choose(inside, ordinary, thaw)
+    // No Result: by `legs_on` a refusal comes back as an empty part, and `test` alone tells the refusal.
+    match test(places, ordinary, thaw, window, date) {
+        Ok(()) if windows::inside(window, date.into()) => thaw,
+        Ok(()) => ordinary,
+        Err(_) => &ordinary[..0],
+    }
 }

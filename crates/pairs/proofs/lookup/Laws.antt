@@ -7,7 +7,7 @@ use borrow.Author.Tests.{ltb-true, lt-ltb}
 use lib.Dec.{ltb}
 use lib.ListN.{get_or}
 use native.Mathlib.Omega.{arith}
-use Rattle.base.proofs.Numbers.{unless-zero, accepted_values, zeros_told}
+use Rattle.base.proofs.Numbers.{unless-zero, accepted_values}
 use Rattle.road.specs.Table.{most_places, most_legs, leg_index}
 use Rattle.road.proofs.Order.{all_legs, legs_before, in_order-at}
 use Rattle.legorder.specs.declared.Pair.{Pair}
@@ -18,10 +18,6 @@ module _ (i : ℕ) where
   -- an accepted index is below the most legs
   pub index_below : index_refusal i ≡ 0 → i < most_legs
   index_below h = ltb-true i most_legs (unless-zero (ltb i most_legs) 4 h)
-
-  pub pair_refused : (n : ℕ) → n ≡ index_refusal i → (n ≡ 0 → ⊥) → ◌≡◌ {A = PairTold} (record { number = n; pair = leg_pair 0 0 }) (pair_at_of i)
-  unfolding pair_at_of
-  pair_refused n e h = rw (← e) (zeros_told n _ (λ m. record { number = m; pair = leg_pair 0 0 }) h)
 
   pub pair_number : (pair_at_of i).number ≡ 0 → index_refusal i ≡ 0
   unfolding pair_at_of
@@ -37,10 +33,6 @@ module _ (u v : ℕ) where
   pair-leg h =
       let both = (and-eq-true_iff (ltb u v) (ltb v most_places)).0 (unless-zero (ltb u v && ltb v most_places) 4 h) in
       (ltb-true u v both.0, ltb-true v most_places both.1)
-
-  pub index_refused : (n : ℕ) → n ≡ pair_refusal u v → (n ≡ 0 → ⊥) → ◌≡◌ {A = IndexTold} (record { number = n; index = 0 }) (index_of u v)
-  unfolding index_of
-  index_refused n e h = rw (← e) (zeros_told n _ (λ m. record { number = m; index = 0 }) h)
 
   pub index_accepted : pair_refusal u v ≡ 0 → ◌≡◌ {A = IndexTold} (record { number = 0; index = leg_index u v }) (index_of u v)
   unfolding index_of
