@@ -57,17 +57,15 @@ pub(crate) fn put_calls(
     ensures { Put (call_lines calls (λ i. get_or cranes.now i 0) (λ i. get_or metres.now i 0) (λ i. get_or leasts.now i 0)) out.old 0 out.new result }
 {
     let mut at = 0;
-    let mut i = 0;
-    while i < calls {
+    for i in 0..calls {
         at = put_call(
             i as u64,
-            cranes[i] as u64,
-            metres[i] as u64,
+            u64::from(cranes[i]),
+            u64::from(metres[i]),
             leasts[i],
             out,
             at,
         );
-        i += 1;
     }
     at
 }

@@ -1,29 +1,18 @@
 // The figures of two tables beside each other.
-ghost use Rattle.std.specs.Prelude.{◌<◌, ◌≡◌, ltb, length, get_or};
+ghost use Rattle.std.specs.Prelude.{◌≡◌, length};
 ghost use Rattle.base.specs.Numbers.{number_of};
 ghost use Rattle.rough.specs.Rough.{bounds_refusal};
 
 use base::{Refusal, Verdict};
-
-// Whether the lower figure of a leg exceeds its upper.
-fn exceeds(lower: &[u32], upper: &[u32], leg: usize) -> bool
-    requires { (leg < length lower.now) × (leg < length upper.now) }
-    ensures { result ≡ ltb (get_or upper.now leg 0) (get_or lower.now leg 0) }
-{
-    upper[leg] < lower[leg]
-}
 
 // 15 if some lower figure exceeds its upper.
 pub(crate) fn test(lower: &[u32], upper: &[u32]) -> Verdict
     requires { length lower.now ≡ length upper.now }
     ensures { number_of result ≡ bounds_refusal lower.now upper.now }
 {
-    let mut i = 0;
-    while i < lower.len() {
-        if exceeds(lower, upper, i) {
-            return Verdict::Refused(Refusal::Bounds);
-        }
-        i += 1;
+    if lower.iter().zip(upper).all(|(low, high)| low <= high) {
+        Verdict::Accepted
+    } else {
+        Verdict::Refused(Refusal::Bounds)
     }
-    Verdict::Accepted
 }

@@ -16,16 +16,14 @@ pub(crate) fn put(requests: &[u16], cranes: &[u16], metres: &[u32], leasts: &[u6
     requires { RowsGiven requests.now cranes.now metres.now leasts.now out.old }
     ensures { out.new ≡ splice 0 (flat_map row_bytes (up_to (length requests.now) (row_at requests.now cranes.now metres.now leasts.now))) out.old }
 {
-    let mut i = 0;
-    while i < requests.len() {
+    for (i, place) in requests.iter().enumerate() {
         let r = Row {
             call: FIRST + i as u64,
-            place: requests[i] as u64,
-            crane: cranes[i] as u64,
-            metres: metres[i] as u64,
+            place: u64::from(*place),
+            crane: u64::from(cranes[i]),
+            metres: u64::from(metres[i]),
             least: leasts[i],
         };
         row::put(r, out, ROW * i);
-        i += 1;
     }
 }

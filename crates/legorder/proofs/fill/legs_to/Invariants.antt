@@ -7,6 +7,3 @@ use Rattle.legorder.proofs.fill.legs_to.Given as goal
 
 abbrev pub invariant-loop-u : goal.invariant-loop-u
 invariant-loop-u l = Spliced (λ i. up_to i (λ (j : ℕ). j)) l.from l.initial.firsts l.v l.firsts l.u × Spliced (λ i. up_to i (λ (j : ℕ). l.v)) l.from l.initial.seconds l.v l.seconds l.u
-
-abbrev pub decreases-loop-u : goal.decreases-loop-u
-decreases-loop-u l = l.v - l.u
