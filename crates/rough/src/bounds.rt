@@ -1,16 +1,24 @@
 // The figures of two tables beside each other.
-ghost use Rattle.std.specs.Prelude.{◌≡◌, length};
+ghost use Rattle.std.specs.Prelude.{◌≤◌, ◌≡◌, ◌↔◌, IsTrue, EachIndex, slice_index, length};
 ghost use Rattle.base.specs.Numbers.{number_of};
 ghost use Rattle.rough.specs.Rough.{bounds_refusal};
 
 use base::{Refusal, Verdict};
+
+// Whether no lower figure of a leg exceeds its upper.
+fn ordered(lower: &[u32], upper: &[u32]) -> bool
+    requires { length lower.now ≡ length upper.now }
+    ensures { IsTrue result ↔ EachIndex lower.now (λ i. slice_index lower.now i ≤ slice_index upper.now i) }
+{
+    lower.iter().zip(upper).all(|(low, high)| low <= high)
+}
 
 // 15 if some lower figure exceeds its upper.
 pub(crate) fn test(lower: &[u32], upper: &[u32]) -> Verdict
     requires { length lower.now ≡ length upper.now }
     ensures { number_of result ≡ bounds_refusal lower.now upper.now }
 {
-    if lower.iter().zip(upper).all(|(low, high)| low <= high) {
+    if ordered(lower, upper) {
         Verdict::Accepted
     } else {
         Verdict::Refused(Refusal::Bounds)
