@@ -88,7 +88,7 @@ pub fn occupancy(book: Book, places: usize, table: &[u32]) -> Occupied
     let empty = !mask;
     Occupied {
         verdict: Verdict::Accepted,
-        held: u64::count_ones(mask) as usize,
-        free: u64::trailing_zeros(empty) as usize,
+        held: mask.count_ones() as usize,
+        free: empty.trailing_zeros() as usize,
     }
 }

@@ -15,6 +15,5 @@ pub(crate) fn test(book: Book, places: usize, table: &[u32], place: u16) -> Verd
     let Verdict::Accepted = tested else {
         return tested;
     };
-    let asked = [place];
-    Day::test_stops(places, &asked[..])
+    Day::test_stops(places, &[place])
 }
