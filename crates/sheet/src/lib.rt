@@ -34,16 +34,7 @@ pub fn write(day: Day, table: &[u32], out: &mut [u8]) -> Written
         };
     }
     let requests = day.requests;
-    let cranes = served.cranes;
-    let metres = served.metres;
-    let leasts = served.leasts;
-    rows::put(
-        &requests[..calls],
-        &cranes[..],
-        &metres[..],
-        &leasts[..],
-        out,
-    );
+    rows::put(&requests[..calls], &served, out);
     Written {
         verdict: Verdict::Accepted,
         length,

@@ -9,4 +9,4 @@ use Rattle.sheet.specs.Sheet.{row_at}
 use Rattle.sheet.proofs.rows.put.Given as goal
 
 abbrev pub invariant-loop-i : goal.invariant-loop-i
-invariant-loop-i l = Spliced (λ k. flat_map row_bytes (up_to k (row_at l.requests l.cranes l.metres l.leasts))) 0 l.initial.out (length l.requests) l.out l.i
+invariant-loop-i l = Spliced (λ k. flat_map row_bytes (up_to k (row_at l.requests l.served.cranes l.served.metres l.served.leasts))) 0 l.initial.out (length l.requests) l.out l.i
