@@ -8,7 +8,7 @@ ghost use Rattle.report.specs.Report.{printed};
 use crate::{Printed, TEXT};
 use dispatch::ServedDay;
 
-// std's `write!` would end in an error that a text with room never gives, and no clause of it says so.
+// Not by std's `write!`: none of its clauses says that it ends in `Ok` where there is room.
 impl Printed {
     // No text.
     pub(crate) fn empty() -> Printed
