@@ -1,5 +1,5 @@
 // The lines of a print, each written behind the text that it has so far.
-ghost use Rattle.std.specs.Prelude.{◌≡◌, ◌+◌, ◌*◌, ◌≤◌, replicate, length, get_or};
+ghost use Rattle.std.specs.Prelude.{◌≡◌, ◌+◌, ◌≤◌, replicate, length, get_or};
 ghost use Rattle.base.specs.Decimal.{decimal};
 ghost use Rattle.report.specs.Text.{field, call_line, last_line, refused_line, call_lines};
 ghost use Rattle.report.specs.Put.{Put, CallsGiven};
