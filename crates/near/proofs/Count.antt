@@ -2,12 +2,12 @@
 -- Assumes nothing.
 use Prim.Native.Nat.{ℕ, zero, suc, ◌+◌, ◌<◌, ◌≤◌, zero-le, suc-le-suc}
 use mathlib.Core.Bool.{Bool, true, false, cond}
-use mathlib.Core.List.{List, [], ◌∷◌}
+use mathlib.Core.List.{List, ◌∷◌}
 use mathlib.Core.Logic.{⊎_elim}
 use Rattle.std.proofs.Common.{Option, Some, None}
 use mathlib.Core.Path.{◌≡◌, refl, sym, ap, ◌∙◌}
 use lib.ListN.{length, get_or}
-use native.Mathlib.Nat.{mul-one, not-suc-le-zero, le_of_suc-le-suc, le_antisymm, eq-or-lt_of_le, le_refl, zero-add}
+use native.Mathlib.Nat.{mul-one, not-suc-le-zero, le_of_suc-le-suc, eq-or-lt_of_le, le_refl, zero-add}
 use native.Mathlib.Omega.{arith}
 use Rattle.std.specs.List.{count_by, range_with_len}
 use Rattle.std.specs.Option.{MatchOption, unwrap_or}

@@ -53,8 +53,9 @@ pub fn near(
     };
     let cranes = book.cranes;
     let stands = book.stands;
-    let metres = metres::of_stands(table, &stands[..cranes], place);
-    let count = metres::within(&metres[..cranes], distance);
+    let found = metres::of_stands(table, &stands[..cranes], place);
+    let metres = &found[..cranes];
+    let count = metres::within(metres, distance);
     if out.len() < count {
         return Nearby {
             verdict: Verdict::Refused(Refusal::Buffer),
@@ -62,11 +63,11 @@ pub fn near(
             nearest: 0,
         };
     }
-    order::put(&metres[..cranes], count, out);
+    order::put(metres, count, out);
     Nearby {
         verdict: Verdict::Accepted,
         count,
-        nearest: order::nth(&metres[..cranes], 0),
+        nearest: order::nth(metres, 0),
     }
 }
 

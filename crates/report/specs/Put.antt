@@ -1,5 +1,5 @@
 -- What the private functions that write a line promise. No public contract cites it.
-use Rattle.std.specs.Prelude.{ℕ, ◌+◌, ◌*◌, ◌≤◌, List, ◌≡◌, length}
+use Rattle.std.specs.Prelude.{ℕ, ◌+◌, ◌≤◌, List, ◌≡◌, length}
 use Rattle.base.specs.Lists.{splice}
 use Rattle.dayfile.specs.Day.{most_calls}
 

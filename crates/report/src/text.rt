@@ -1,5 +1,5 @@
 // The lines of a print, each written behind the text that it has so far.
-ghost use Rattle.std.specs.Prelude.{◌≡◌, ◌+◌, ◌*◌, ◌≤◌, replicate, length, get_or};
+ghost use Rattle.std.specs.Prelude.{◌≡◌, ◌+◌, ◌≤◌, replicate, length, get_or};
 ghost use Rattle.base.specs.Decimal.{decimal};
 ghost use Rattle.report.specs.Text.{field, call_line, last_line, refused_line, call_lines};
 ghost use Rattle.report.specs.Put.{Put, CallsGiven};
@@ -8,7 +8,7 @@ ghost use Rattle.report.specs.Report.{printed};
 use crate::{Printed, TEXT};
 use dispatch::ServedDay;
 
-// std's `write!` would end in an error that a text with room never gives, and no clause of it says so.
+// Not by std's `write!`: none of its clauses says that it ends in `Ok` where there is room.
 impl Printed {
     // No text.
     pub(crate) fn empty() -> Printed

@@ -1,6 +1,6 @@
 -- `legorder::fill::legs_to` meets its contract: the loop writes the places of the legs to v one behind another.
 -- Assumes nothing.
-use Prim.Native.Nat.{ℕ, ◌-◌}
+use Prim.Native.Nat.{ℕ}
 use Rattle.base.specs.Lists.{up_to}
 use Rattle.base.proofs.Lists.{Spliced}
 use Rattle.legorder.proofs.fill.legs_to.Given as goal

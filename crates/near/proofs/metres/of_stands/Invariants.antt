@@ -9,4 +9,3 @@ use Rattle.near.proofs.metres.of_stands.Given as goal
 
 abbrev pub invariant-loop-s : goal.invariant-loop-s
 invariant-loop-s l = Filled (drive (metres_of l.table) l.stands l.place) (replicate most_cranes 0) (length l.stands) l.metres l.s
-
