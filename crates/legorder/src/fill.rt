@@ -11,10 +11,8 @@ pub(crate) fn legs_to(v: usize, firsts: &mut [u16], seconds: &mut [u16])
     ensures { (firsts.new ≡ splice (leg_count v) (up_to v (λ u. u)) firsts.old) × (seconds.new ≡ splice (leg_count v) (up_to v (λ u. v)) seconds.old) }
 {
     let from = Road::legs(v);
-    let mut u = 0;
-    while u < v {
+    for u in 0..v {
         firsts[from + u] = u as u16;
         seconds[from + u] = v as u16;
-        u += 1;
     }
 }

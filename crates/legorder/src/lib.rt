@@ -30,10 +30,8 @@ pub fn generate() -> Columns
 {
     let mut firsts = [0; Road::LEGS];
     let mut seconds = [0; Road::LEGS];
-    let mut v = 0;
-    while v < Road::PLACES {
+    for v in 0..Road::PLACES {
         fill::legs_to(v, &mut firsts, &mut seconds);
-        v += 1;
     }
     Columns { firsts, seconds }
 }

@@ -1,12 +1,18 @@
--- The laws of the numbers that pass a test: how many, and the lowest; and the loop that looks for it.
+-- The laws of the numbers that pass a test: how many, and the lowest.
 -- Assumes nothing.
 use Prim.Native.Nat.{ℕ, zero, suc, ◌+◌, ◌<◌, ◌≤◌, zero-le, suc-le-suc}
 use mathlib.Core.Bool.{Bool, true, false, cond}
+use mathlib.Core.List.{List, ◌∷◌}
 use mathlib.Core.Logic.{⊎_elim}
+use Rattle.std.proofs.Common.{Option, Some, None}
 use mathlib.Core.Path.{◌≡◌, refl, sym, ap, ◌∙◌}
-use native.Mathlib.Nat.{mul-one, not-suc-le-zero, le_of_suc-le-suc, le_antisymm, eq-or-lt_of_le, le_refl}
+use lib.ListN.{length, get_or}
+use native.Mathlib.Nat.{mul-one, not-suc-le-zero, le_of_suc-le-suc, eq-or-lt_of_le, le_refl, zero-add}
 use native.Mathlib.Omega.{arith}
-use Rattle.base.proofs.Tests.{one_more}
+use Rattle.std.specs.List.{count_by, range_with_len}
+use Rattle.std.specs.Option.{MatchOption, unwrap_or}
+use Rattle.std.proofs.lemmas.List.FromFn.{length-range_with_len, get_or-range_with_len}
+use Rattle.std.proofs.lemmas.List.Recursion.{is_count_by}
 use Rattle.workfunction.specs.Lists.{sum_below}
 use Rattle.workfunction.proofs.Sums.{sum_same, sum_first, sum_most, sum-zero}
 use Rattle.near.specs.Count.{count, first}
@@ -38,6 +44,24 @@ module _ (P : ℕ → Bool) where
       ⊎_elim (λ (e : n ≡ suc m). rw e)
       (λ (l : n < suc m). let before = count_wider n m (le_of_suc-le-suc l) (λ i h lt. none i h (omega arith)) in
       rw (none m (le_of_suc-le-suc l) (le_refl (suc m))) (omega arith)) (eq-or-lt_of_le le)
+
+-- those whose entries in a list pass
+pub count_list : (P : ℕ → Bool) (xs : List ℕ) → count_by P xs ≡ count (length xs) (λ i. P (get_or xs i 0))
+count_list P xs = sym (is_count_by (λ ys. count (length ys) (λ i. P (get_or ys i 0))) P (count_none _ 0 (λ i h. absurd (not-suc-le-zero h))) first xs)
+  where
+    first : (x : ℕ) (ys : List ℕ) → count (suc (length ys)) (λ i. P (get_or (x ∷ ys) i 0)) ≡ cond (P x) (1 + count (length ys) (λ i. P (get_or ys i 0))) (count (length ys) (λ i. P (get_or ys i 0)))
+    first x ys = count-first (λ i. P (get_or (x ∷ ys) i 0)) (length ys) ∙ go (P x)
+      where
+        go : (b : Bool) → cond b 1 0 + count (length ys) (λ i. P (get_or ys i 0)) ≡ cond b (1 + count (length ys) (λ i. P (get_or ys i 0))) (count (length ys) (λ i. P (get_or ys i 0)))
+        go true = refl
+        go false = omega arith
+
+-- those of a range
+pub count_range : (P : ℕ → Bool) (n : ℕ) → count_by P (range_with_len 0 n) ≡ count n P
+unfolding count
+count_range P n =
+    count_list P (range_with_len 0 n)
+    ∙ rw (length-range_with_len 0 n) (sum_same n _ _ (λ i h. rw (get_or-range_with_len 0 n i 0 h, zero-add i)))
 
 -- ---- the lowest
 
@@ -88,6 +112,13 @@ first-lowest (suc n) P t lt = go (P 0) refl t lt (first-lowest n (λ i. P (suc i
     go false e zero h more = e
     go false e (suc t) h more = more t (le_of_suc-le-suc h)
 
+-- what a search of the numbers below n finds, or n
+pub first_told : (n : ℕ) (P : ℕ → Bool) (r : Option ℕ)
+    → MatchOption r ((t : ℕ) → 0 ≤ t → t < n → P t ≡ false) (λ s. (0 ≤ s) × (s < n) × (P s ≡ true) × ((t : ℕ) → 0 ≤ t → t < s → P t ≡ false))
+    → unwrap_or r n ≡ first n P
+first_told n P None none = sym (first-none n P (λ t h. none t zero-le h))
+first_told n P (Some s) found = sym (first_found n P s found.1 found.2 (λ t h. found.3 t zero-le h))
+
 -- every number passes from n on
 pub first_wider : (n m : ℕ) (P : ℕ → Bool) → n ≤ m → ((i : ℕ) → n ≤ i → i < m → P i ≡ true) → first m P ≡ first n P
 unfolding first
@@ -96,20 +127,3 @@ first_wider zero (suc m) P le all = rw (all 0 zero-le (suc-le-suc zero-le))
 first_wider (suc n) zero P le all = absurd (not-suc-le-zero le)
 first_wider (suc n) (suc m) P le all =
     ap (λ (k : ℕ). cond (P 0) 0 (suc k)) (first_wider n m (λ i. P (suc i)) (le_of_suc-le-suc le) (λ i h l. all (suc i) (suc-le-suc h) (suc-le-suc l)))
-
--- ---- a loop that looks for the first below n
-
--- none below i passes
-pub record Sought (n : ℕ) (P : ℕ → Bool) (i : ℕ) : Type 0 where
-  pub most : i ≤ n
-  pub none : (t : ℕ) → t < i → P t ≡ false
-
-module _ (n : ℕ) (P : ℕ → Bool) where
-  pub seek_begun : Sought n P 0
-  seek_begun = record { most = zero-le; none = λ t h. absurd (not-suc-le-zero h) }
-
-  pub seek_turned : (i : ℕ) → Sought n P i → i < n → P i ≡ false → Sought n P (i + 1)
-  seek_turned i so lt fails = record { most = omega arith; none = one_more (λ t. P t ≡ false) i fails so.none }
-
-  pub seek_ended : (i : ℕ) → Sought n P i → n ≤ i → i ≡ first n P
-  seek_ended i so le = let e : i ≡ n = le_antisymm so.most le in e ∙ sym (first-none n P (λ t h. so.none t (rw e h)))

@@ -43,15 +43,16 @@ pub fn near(
     place::test(book, places, table, place)?;
     let cranes = book.cranes;
     let stands = book.stands;
-    let metres = metres::of_stands(table, &stands[..cranes], place);
-    let count = metres::within(&metres[..cranes], distance);
+    let found = metres::of_stands(table, &stands[..cranes], place);
+    let metres = &found[..cranes];
+    let count = metres::within(metres, distance);
     if out.len() < count {
         return Err(Refusal::Buffer);
     }
-    order::put(&metres[..cranes], count, out);
+    order::put(metres, count, out);
     Ok(Nearby {
         count,
-        nearest: order::nth(&metres[..cranes], 0),
+        nearest: order::nth(metres, 0),
     })
 }
 
@@ -65,7 +66,7 @@ pub fn occupancy(book: Book, places: usize, table: &[u32]) -> Result<Occupied, R
     let mask = mask::of_places(&stands[..cranes]);
     let empty = !mask;
     Ok(Occupied {
-        held: u64::count_ones(mask) as usize,
-        free: u64::trailing_zeros(empty) as usize,
+        held: mask.count_ones() as usize,
+        free: empty.trailing_zeros() as usize,
     })
 }

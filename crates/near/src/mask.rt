@@ -10,10 +10,8 @@ pub(crate) fn of_places(places: &[u16]) -> u64
     ensures { result ≡ mask_of most_places (λ p. contains p places.now) }
 {
     let mut mask: u64 = 0;
-    let mut i = 0;
-    while i < places.len() {
-        mask |= 1u64 << places[i];
-        i += 1;
+    for place in places {
+        mask |= 1u64 << *place;
     }
     mask
 }

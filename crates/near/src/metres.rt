@@ -16,10 +16,8 @@ pub(crate) fn of_stands(table: &[u32], stands: &[u16], place: u16) -> [u32; Book
     ensures { result ≡ padded most_cranes (length stands.now) (drive (metres_of table.now) stands.now place) 0 }
 {
     let mut metres = [0; Book::CRANES];
-    let mut s = 0;
-    while s < stands.len() {
-        metres[s] = Road::metres(table, stands[s] as usize, place as usize);
-        s += 1;
+    for (s, stand) in stands.iter().enumerate() {
+        metres[s] = Road::metres(table, usize::from(*stand), usize::from(place));
     }
     metres
 }
@@ -28,13 +26,5 @@ pub(crate) fn of_stands(table: &[u32], stands: &[u16], place: u16) -> [u32; Book
 pub(crate) fn within(metres: &[u32], distance: u32) -> usize
     ensures { result ≡ count (length metres.now) (λ s. leb (get_or metres.now s 0) distance) }
 {
-    let mut count = 0;
-    let mut s = 0;
-    while s < metres.len() {
-        if metres[s] <= distance {
-            count += 1;
-        }
-        s += 1;
-    }
-    count
+    metres.iter().filter(|m| **m <= distance).count()
 }

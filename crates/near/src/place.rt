@@ -12,6 +12,5 @@ pub(crate) fn test(book: Book, places: usize, table: &[u32], place: u16) -> Resu
     ensures { number_of result ≡ near_refusal book places table.now place }
 {
     book.test(places, table)?;
-    let asked = [place];
-    Day::test_stops(places, &asked[..])
+    Day::test_stops(places, &[place])
 }

@@ -43,10 +43,9 @@ module _ (s : DayFigures) where
       either_told (λ (text : List ℕ). length text ≤ 32768) s.number _ _ (λ e. day_fits _ _ _ s.calls s.driven s.home s.floor calls)
       (λ n. omega (arith, length-refused_line n 0))
 
-  pub day_refused : (n : ℕ) {old now : List ℕ} {r : ℕ} → n ≡ s.number → (s.number ≡ 0 → ⊥) → Put (refused_line n 0) old 0 now r
-      → Put (figures_text s) old 0 now r
+  pub day_refused : (n : ℕ) → n ≡ s.number → (s.number ≡ 0 → ⊥) → refused_line n 0 ≡ figures_text s
   unfolding figures_text
-  day_refused n e h p = rw (← zeros_told s.number _ (λ (k : ℕ). refused_line k 0) h, ← e) p
+  day_refused n e h = rw e (zeros_told s.number _ (λ (k : ℕ). refused_line k 0) h)
 
   -- the last line behind those of the calls
   pub day_put : {old mid now : List ℕ} {x y : ℕ} → s.number ≡ 0 → s.calls ≤ most_calls → 32768 ≤ length old
@@ -64,10 +63,9 @@ module _ (bytes out : List ℕ) (o : Output) where
   bytes_put zero e h = record { buffer = rw e; behind = rw (e, zero-add) }
   bytes_put (suc k) e h = let some : suc k ≡ 0 = rw e at h in absurd (omega arith)
 
-  line_put : (k : ℕ) → o ≡ output_by k bytes out → (o.number ≡ 0 → ⊥) → {now : List ℕ} {r : ℕ} → Put (refused_line o.number 0) o.buffer 0 now r
-      → Put (unless_refused k bytes (λ n. refused_line n 0)) out 0 now r
-  line_put zero e h p = absurd (h (rw e))
-  line_put (suc k) e h p = rw e at p
+  line_told : (k : ℕ) → o ≡ output_by k bytes out → (o.number ≡ 0 → ⊥) → refused_line o.number 0 ≡ unless_refused k bytes (λ n. refused_line n 0)
+  line_told zero e h = absurd (h (rw e))
+  line_told (suc k) e h = rw e
 
 module _ (day : Day) (t : Table) (arrays : DayArrays day) (out : List ℕ) (o : Output) (e : o ≡ sheet_of day t out) (long : 32768 ≤ length out) where
   decided : o ≡ output_by (day_refusal day t) (sheet_bytes day t) out
@@ -75,10 +73,9 @@ module _ (day : Day) (t : Table) (arrays : DayArrays day) (out : List ℕ) (o : 
       e ∙ output_decided (day_refusal day t) (sheet_bytes day t) out
       (λ accepted. omega (arith, sheet_length day t accepted arrays, (day-tested day t accepted).counts.calls))
 
-  pub sheet_refused : (n : ℕ) {now : List ℕ} {r : ℕ} → n ≡ o.number → (o.number ≡ 0 → ⊥) → Put (refused_line n 0) o.buffer 0 now r
-      → Put (sheet_text day t) out 0 now r
+  pub sheet_refused : (n : ℕ) → n ≡ o.number → (o.number ≡ 0 → ⊥) → refused_line n 0 ≡ sheet_text day t
   unfolding sheet_text
-  sheet_refused n q h p = line_put (sheet_bytes day t) out o (day_refusal day t) decided h (rw (← q) p)
+  sheet_refused n q h = rw q (line_told (sheet_bytes day t) out o (day_refusal day t) decided h)
 
   pub sheet_put : o.number ≡ 0 → Put (sheet_text day t) out 0 o.buffer o.length
   unfolding sheet_text
@@ -87,16 +84,14 @@ module _ (day : Day) (t : Table) (arrays : DayArrays day) (out : List ℕ) (o : 
 -- ---- a file that was read
 
 module _ (told : Day → Table → List ℕ) (file : List ℕ) (a : Answer) (e : a ≡ read_file file) where
-  pub file_refused : (n : ℕ) {old now : List ℕ} {r : ℕ} → n ≡ a.number → (a.number ≡ 0 → ⊥) → Put (refused_line n a.index) old 0 now r
-      → Put (file_text told file) old 0 now r
-  file_refused n q h p = rw (← e, ← zeros_told a.number _ (λ (k : ℕ). refused_line k a.index) h, ← q) p
+  pub file_refused : (n : ℕ) → n ≡ a.number → (a.number ≡ 0 → ⊥) → refused_line n a.index ≡ file_text told file
+  file_refused n q h = rw (← e, q) (zeros_told a.number _ (λ (k : ℕ). refused_line k a.index) h)
 
   -- the legs of the places read are the run
-  pub file_told : {legs : ℕ} {old now : List ℕ} {r : ℕ} → legs ≡ legs_of a.day.places → a.number ≡ 0
-      → Put (told a.day (take legs a.table)) old 0 now r → Put (file_text told file) old 0 now r
-  file_told q z p =
+  pub file_told : {legs : ℕ} → legs ≡ legs_of a.day.places → a.number ≡ 0 → told a.day (take legs a.table) ≡ file_text told file
+  file_told q z =
       let few : a.day.places ≤ most_places = rw e (day-tested _ _ (file_accepted file (rw (← e) z))).counts.places in
-      rw (← e, z) (rw (q ∙ legs_counted a.day.places few) at p)
+      rw (← e, z, q ∙ legs_counted a.day.places few)
 
 -- the day of an accepted file is served: a file's own test leaves nothing for the day's to refuse
 pub accepted_served : (file : List ℕ) → (read_file file).number ≡ 0 → (served_day (read_file file).day (read_table file)).number ≡ 0
@@ -128,10 +123,10 @@ sheet_fits file =
     (λ n. omega (arith, length-refused_line n (read_file file).index))
 
 -- a text written into the front of zeros
-pub put_printed : {text now : List ℕ} {r : ℕ} → Put text (replicate 32768 0) 0 now r
+pub put_printed : {text old now : List ℕ} {r : ℕ} → old ≡ replicate 32768 0 → Put text old 0 now r
     → ◌≡◌ {A = Printed} (record { length = r; text = now }) (printed text)
 unfolding splice printed
-put_printed p = rw (p.buffer, p.behind, zero-add, drop-replicate)
+put_printed e p = rw (p.buffer, p.behind, e, zero-add, drop-replicate)
 
 -- a text that fits is within its array
 pub text_within : (r : Printed) (text : List ℕ) → r ≡ printed text → length text ≤ 32768 → length r.text ≡ 32768 → IsPrefixLen r.length r.text

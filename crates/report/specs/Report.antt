@@ -8,8 +8,6 @@ use Rattle.dayfile.specs.File.{read_file, read_table}
 use Rattle.dispatch.specs.ServedDay.{DayFigures, served_day}
 use Rattle.sheet.specs.Sheet.{sheet_bytes}
 use Rattle.report.specs.declared.Printed.{Printed}
-use Rattle.report.specs.declared.day.Form.{Form}
-use Rattle.report.specs.declared.day.Form.TheVariants.{Lines, Rows}
 use Rattle.report.specs.Text.{refused_line, day_text}
 
 -- the text of a served day. Of a refused day the line has record 0; the day of an accepted file is never refused (`accepted_served`)
@@ -20,14 +18,13 @@ figures_text s =
     s.floor)
     (λ n. refused_line n 0)
 
+-- the lines of a day, as text
+abbrev pub lines_text : Day → Table → List ℕ
+lines_text day t = figures_text (served_day day t)
+
 -- the sheet of a day, as text. Of a refused day the line has record 0 too
 unfoldable pub sheet_text : Day → Table → List ℕ
 sheet_text day t = unless_refused (day_refusal day t) (sheet_bytes day t) (λ n. refused_line n 0)
-
--- what is told of a day in each form
-abbrev pub day_in : Form → Day → Table → List ℕ
-day_in Lines day t = figures_text (served_day day t)
-day_in Rows day t = sheet_text day t
 
 -- "A refusal writes one line, `refused N record I`": else what is told of the day
 abbrev pub file_text : (Day → Table → List ℕ) → List ℕ → List ℕ
@@ -36,11 +33,11 @@ file_text told file =
 
 -- "It reads a day file .., serves the calls from a fresh book, and writes lines"
 unfoldable pub print_of : List ℕ → List ℕ
-print_of file = file_text (day_in Lines) file
+print_of file = file_text lines_text file
 
 -- the same for the wall: the sheet, or the line of a refusal
 unfoldable pub sheet_print_of : List ℕ → List ℕ
-sheet_print_of file = file_text (day_in Rows) file
+sheet_print_of file = file_text sheet_text file
 
 -- a text in an array of 32,768 bytes, with 0 behind it
 unfoldable pub printed : List ℕ → Printed

@@ -1,70 +1,57 @@
-// The print and the sheet of a file and of the day that it holds, into the front of a buffer. Each function returns the index behind
-// what it wrote.
-ghost use Rattle.std.specs.Prelude.{◌≤◌, length};
-ghost use Rattle.dispatch.specs.ServedDay.{served_day};
-ghost use Rattle.report.specs.Put.{Put};
-ghost use Rattle.report.specs.Report.{figures_text, sheet_text, day_in, file_text};
+// The print and the sheet of a file and of the day that it holds.
+ghost use Rattle.std.specs.Prelude.{◌≡◌, List, ℕ};
+ghost use Rattle.road.specs.Table.{Table};
+ghost use Rattle.dayfile.specs.declared.Day.{Day};
+ghost use Rattle.report.specs.Report.{lines_text, sheet_text, file_text, printed};
 
-use crate::text;
+use crate::Printed;
 use base::Verdict;
 use dayfile::Day;
 use dispatch::Dispatch;
 use road::Road;
 
-// What is told of a day: a line for each call and the last line, or its sheet.
-#[derive(Clone, Copy)]
-pub(crate) enum Form {
-    Lines,
-    Rows,
-}
-
 // The text of a file: the line of its refusal, or what is told of its day.
-pub(crate) fn put_file(form: Form, file: &[u8], out: &mut [u8]) -> usize
-    requires { 32768 ≤ length out.old }
-    ensures { Put (file_text (day_in form) file.now) out.old 0 out.new result }
+pub(crate) fn of_file<F: FnOnce(Day, &[u32]) -> Printed>(file: &[u8], tell: F) -> Printed
+    requires { F.IsAlwaysCallable tell }
+    ensures { (told : Day → Table → List ℕ) → ((day : _) (table : _) (r : _) → F.post tell day table r → r ≡ printed (told day table.now)) → result ≡ printed (file_text told file.now) }
 {
     let reading = Day::read(file);
     let verdict = reading.verdict;
     let index = reading.index;
     let Verdict::Accepted = verdict else {
-        return text::put_refused(base::number(verdict) as u64, index as u64, out);
+        return Printed::refused(u64::from(base::number(verdict)), index as u64);
     };
     let day = reading.day;
     let table = reading.table;
     let legs = Road::legs(day.places);
-    let Form::Rows = form else {
-        return put_lines(day, &table[..legs], out);
-    };
-    put_rows(day, &table[..legs], out)
+    tell(day, &table[..legs])
 }
 
 // The line of a day's refusal, or the lines of its calls and the last line.
-fn put_lines(day: Day, table: &[u32], out: &mut [u8]) -> usize
-    requires { 32768 ≤ length out.old }
-    ensures { Put (figures_text (served_day day table.now)) out.old 0 out.new result }
+pub(crate) fn lines(day: Day, table: &[u32]) -> Printed
+    ensures { result ≡ printed (lines_text day table.now) }
 {
     let served = Dispatch::serve_day(day, table);
     let verdict = served.verdict;
     let Verdict::Accepted = verdict else {
-        return text::put_refused(base::number(verdict) as u64, 0, out);
+        return Printed::refused(u64::from(base::number(verdict)), 0);
     };
-    let cranes = served.cranes;
-    let metres = served.metres;
-    let leasts = served.leasts;
-    let calls = served.calls;
-    let next = text::put_calls(calls, &cranes[..], &metres[..], &leasts[..], out);
-    text::put_last(served.driven, served.home, served.floor, out, next)
+    let mut print = Printed::empty();
+    print.put_calls(&served);
+    print.put_last(served.driven, served.home, served.floor);
+    print
 }
 
 // The line of a day's refusal, or its sheet.
-fn put_rows(day: Day, table: &[u32], out: &mut [u8]) -> usize
-    requires { 32768 ≤ length out.old }
-    ensures { Put (sheet_text day table.now) out.old 0 out.new result }
+pub(crate) fn rows(day: Day, table: &[u32]) -> Printed
+    ensures { result ≡ printed (sheet_text day table.now) }
 {
-    let written = sheet::write(day, table, out);
+    let mut print = Printed::empty();
+    let written = sheet::write(day, table, &mut print.text[..]);
     let verdict = written.verdict;
     let Verdict::Accepted = verdict else {
-        return text::put_refused(base::number(verdict) as u64, 0, out);
+        return Printed::refused(u64::from(base::number(verdict)), 0);
     };
-    written.length
+    print.length = written.length;
+    print
 }

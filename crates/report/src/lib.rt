@@ -7,9 +7,7 @@ mod text;
 
 ghost use Rattle.std.specs.Prelude.{◌≡◌};
 ghost use Rattle.base.specs.Counts.{IsPrefixLen};
-ghost use Rattle.report.specs.Report.{day_in, file_text, print_of, sheet_print_of, printed};
-
-use day::Form;
+ghost use Rattle.report.specs.Report.{print_of, sheet_print_of, printed};
 
 // The bytes that the text of a print has room for; the longest print fits.
 pub const TEXT: usize = 32_768;
@@ -27,7 +25,7 @@ pub fn print(file: &[u8]) -> Printed
     ensures value { result ≡ printed (print_of file.now) }
     ensures prefix_len { IsPrefixLen result.length result.text }
 {
-    text_of(Form::Lines, file)
+    day::of_file(file, day::lines)
 }
 
 // The print of `wallsheet`: the sheet of a day file, or the line of its refusal.
@@ -35,14 +33,5 @@ pub fn print_sheet(file: &[u8]) -> Printed
     ensures value { result ≡ printed (sheet_print_of file.now) }
     ensures prefix_len { IsPrefixLen result.length result.text }
 {
-    text_of(Form::Rows, file)
-}
-
-// The text of a file in one of the two forms.
-fn text_of(form: Form, file: &[u8]) -> Printed
-    ensures { result ≡ printed (file_text (day_in form) file.now) }
-{
-    let mut text = [0; TEXT];
-    let length = day::put_file(form, file, &mut text[..]);
-    Printed { length, text }
+    day::of_file(file, day::rows)
 }

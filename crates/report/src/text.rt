@@ -1,94 +1,102 @@
-// The lines of the print, into a buffer. Each function writes from the index `at`, or from the front, and returns the index
-// behind what it wrote.
-ghost use Rattle.std.specs.Prelude.{◌+◌, ◌≤◌, length, get_or};
+// The lines of a print, each written behind the text that it has so far.
+ghost use Rattle.std.specs.Prelude.{◌≡◌, ◌+◌, ◌≤◌, replicate, length, get_or};
 ghost use Rattle.base.specs.Decimal.{decimal};
 ghost use Rattle.report.specs.Text.{field, call_line, last_line, refused_line, call_lines};
 ghost use Rattle.report.specs.Put.{Put, CallsGiven};
+ghost use Rattle.report.specs.Report.{printed};
 
-fn put(text: &[u8], out: &mut [u8], at: usize) -> usize
-    requires { at + length text.now ≤ length out.old }
-    ensures { Put text.now out.old at out.new result }
-{
-    let end = at + text.len();
-    out[at..end].copy_from_slice(text);
-    end
-}
+use crate::{Printed, TEXT};
+use dispatch::ServedDay;
 
-// A number in decimal.
-fn put_number(n: u64, out: &mut [u8], at: usize) -> usize
-    requires { at + 20 ≤ length out.old }
-    ensures { Put (decimal n) out.old at out.new result }
-{
-    let mut digits = [0; 20];
-    let start = itoa::write_digits(n, &mut digits, 20);
-    put(&digits[start..], out, at)
-}
-
-// A word, and a number behind it.
-fn put_field(word: &[u8], n: u64, out: &mut [u8], at: usize) -> usize
-    requires { at + (length word.now + 20) ≤ length out.old }
-    ensures { Put (field word.now n) out.old at out.new result }
-{
-    let next = put(word, out, at);
-    put_number(n, out, next)
-}
-
-// The line of a call.
-fn put_call(i: u64, crane: u64, metres: u64, least: u64, out: &mut [u8], at: usize) -> usize
-    requires { at + 108 ≤ length out.old }
-    ensures { Put (call_line i crane metres least) out.old at out.new result }
-{
-    let called = put_field(b"call ", i, out, at);
-    let sent = put_field(b" crane ", crane, out, called);
-    let driven = put_field(b" metres ", metres, out, sent);
-    let told = put_field(b" least ", least, out, driven);
-    put(b"\n", out, told)
-}
-
-// The lines of the first calls.
-pub(crate) fn put_calls(
-    calls: usize,
-    cranes: &[u16],
-    metres: &[u32],
-    leasts: &[u64],
-    out: &mut [u8],
-) -> usize
-    requires { CallsGiven calls cranes.now metres.now leasts.now out.old }
-    ensures { Put (call_lines calls (λ i. get_or cranes.now i 0) (λ i. get_or metres.now i 0) (λ i. get_or leasts.now i 0)) out.old 0 out.new result }
-{
-    let mut at = 0;
-    let mut i = 0;
-    while i < calls {
-        at = put_call(
-            i as u64,
-            cranes[i] as u64,
-            metres[i] as u64,
-            leasts[i],
-            out,
-            at,
-        );
-        i += 1;
+// Not by std's `write!`: none of its clauses says that it ends in `Ok` where there is room.
+impl Printed {
+    // No text.
+    pub(crate) fn empty() -> Printed
+        ensures front { result.length ≡ 0 }
+        ensures zeros { result.text ≡ replicate 32768 0 }
+    {
+        Printed {
+            length: 0,
+            text: [0; TEXT],
+        }
     }
-    at
-}
 
-// The line behind those of the calls.
-pub(crate) fn put_last(driven: u64, home: u64, floor: u64, out: &mut [u8], at: usize) -> usize
-    requires { at + 81 ≤ length out.old }
-    ensures { Put (last_line driven home floor) out.old at out.new result }
-{
-    let summed = put_field(b"driven ", driven, out, at);
-    let back = put_field(b" home ", home, out, summed);
-    let told = put_field(b" floor ", floor, out, back);
-    put(b"\n", out, told)
-}
+    // Bytes behind the text.
+    fn put(&mut self, bytes: &[u8])
+        requires { self.old.length + length bytes.now ≤ 32768 }
+        ensures { Put bytes.now self.old.text self.old.length self.new.text self.new.length }
+    {
+        let start = self.length;
+        let end = start + bytes.len();
+        self.text[start..end].copy_from_slice(bytes);
+        self.length = end;
+    }
 
-// The line of a refusal.
-pub(crate) fn put_refused(number: u64, index: u64, out: &mut [u8]) -> usize
-    requires { 57 ≤ length out.old }
-    ensures { Put (refused_line number index) out.old 0 out.new result }
-{
-    let numbered = put_field(b"refused ", number, out, 0);
-    let told = put_field(b" record ", index, out, numbered);
-    put(b"\n", out, told)
+    // A number in decimal.
+    fn put_number(&mut self, n: u64)
+        requires { self.old.length + 20 ≤ 32768 }
+        ensures { Put (decimal n) self.old.text self.old.length self.new.text self.new.length }
+    {
+        let mut digits = [0; 20];
+        let start = itoa::write_digits(n, &mut digits, 20);
+        self.put(&digits[start..]);
+    }
+
+    // A word, and a number behind it.
+    fn put_field(&mut self, word: &[u8], n: u64)
+        requires { self.old.length + (length word.now + 20) ≤ 32768 }
+        ensures { Put (field word.now n) self.old.text self.old.length self.new.text self.new.length }
+    {
+        self.put(word);
+        self.put_number(n);
+    }
+
+    // The line of a call.
+    fn put_call(&mut self, i: u64, crane: u64, metres: u64, least: u64)
+        requires { self.old.length + 108 ≤ 32768 }
+        ensures { Put (call_line i crane metres least) self.old.text self.old.length self.new.text self.new.length }
+    {
+        self.put_field(b"call ", i);
+        self.put_field(b" crane ", crane);
+        self.put_field(b" metres ", metres);
+        self.put_field(b" least ", least);
+        self.put(b"\n");
+    }
+
+    // The lines of the calls of a served day, from the front.
+    pub(crate) fn put_calls(&mut self, served: &ServedDay)
+        requires { CallsGiven self.old.length served.now.calls }
+        ensures { Put (call_lines served.now.calls (λ i. get_or served.now.cranes i 0) (λ i. get_or served.now.metres i 0) (λ i. get_or served.now.leasts i 0)) self.old.text 0 self.new.text self.new.length }
+    {
+        for i in 0..served.calls {
+            self.put_call(
+                i as u64,
+                u64::from(served.cranes[i]),
+                u64::from(served.metres[i]),
+                served.leasts[i],
+            );
+        }
+    }
+
+    // The line behind those of the calls.
+    pub(crate) fn put_last(&mut self, driven: u64, home: u64, floor: u64)
+        requires { self.old.length + 81 ≤ 32768 }
+        ensures { Put (last_line driven home floor) self.old.text self.old.length self.new.text self.new.length }
+    {
+        self.put_field(b"driven ", driven);
+        self.put_field(b" home ", home);
+        self.put_field(b" floor ", floor);
+        self.put(b"\n");
+    }
+
+    // The line of a refusal.
+    pub(crate) fn refused(number: u64, index: u64) -> Printed
+        ensures { result ≡ printed (refused_line number index) }
+    {
+        let mut print = Printed::empty();
+        print.put_field(b"refused ", number);
+        print.put_field(b" record ", index);
+        print.put(b"\n");
+        print
+    }
 }

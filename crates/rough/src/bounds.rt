@@ -1,16 +1,16 @@
 // The figures of two tables beside each other.
-ghost use Rattle.std.specs.Prelude.{◌<◌, ◌≡◌, ltb, length, get_or};
+ghost use Rattle.std.specs.Prelude.{◌≤◌, ◌≡◌, ◌↔◌, IsTrue, EachIndex, slice_index, length};
 ghost use Rattle.base.specs.Numbers.{number_of};
 ghost use Rattle.rough.specs.Rough.{bounds_refusal};
 
 use base::Refusal;
 
-// Whether the lower figure of a leg exceeds its upper.
-fn exceeds(lower: &[u32], upper: &[u32], leg: usize) -> bool
-    requires { (leg < length lower.now) × (leg < length upper.now) }
-    ensures { result ≡ ltb (get_or upper.now leg 0) (get_or lower.now leg 0) }
+// Whether no lower figure of a leg exceeds its upper.
+fn ordered(lower: &[u32], upper: &[u32]) -> bool
+    requires { length lower.now ≡ length upper.now }
+    ensures { IsTrue result ↔ EachIndex lower.now (λ i. slice_index lower.now i ≤ slice_index upper.now i) }
 {
-    upper[leg] < lower[leg]
+    lower.iter().zip(upper).all(|(low, high)| low <= high)
 }
 
 // 15 if some lower figure exceeds its upper.
@@ -18,12 +18,9 @@ pub(crate) fn test(lower: &[u32], upper: &[u32]) -> Result<(), Refusal>
     requires { length lower.now ≡ length upper.now }
     ensures { number_of result ≡ bounds_refusal lower.now upper.now }
 {
-    let mut i = 0;
-    while i < lower.len() {
-        if exceeds(lower, upper, i) {
-            return Err(Refusal::Bounds);
-        }
-        i += 1;
+    if ordered(lower, upper) {
+        Ok(())
+    } else {
+        Err(Refusal::Bounds)
     }
-    Ok(())
 }

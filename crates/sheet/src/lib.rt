@@ -27,15 +27,6 @@ pub fn write(day: Day, table: &[u32], out: &mut [u8]) -> Result<usize, Refusal>
         return Err(Refusal::Buffer);
     }
     let requests = day.requests;
-    let cranes = served.cranes;
-    let metres = served.metres;
-    let leasts = served.leasts;
-    rows::put(
-        &requests[..calls],
-        &cranes[..],
-        &metres[..],
-        &leasts[..],
-        out,
-    );
+    rows::put(&requests[..calls], &served, out);
     Ok(length)
 }

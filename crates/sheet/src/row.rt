@@ -25,11 +25,10 @@ fn put_aligned(n: u64, part: &mut [u8])
     requires { (0 < length part.old) × (n < 10 ^ length part.old) }
     ensures { part.new ≡ aligned (length part.old) n }
 {
-    let mut at = part.len() - 1;
-    part[at] = ZERO + (n % 10) as u8;
+    let last = part.len() - 1;
+    part[last] = ZERO + (n % 10) as u8;
     let mut rest = n / 10;
-    while 0 < at {
-        at -= 1;
+    for at in (0..last).rev() {
         part[at] = if rest == 0 {
             BLANK
         } else {

@@ -7,25 +7,24 @@ ghost use Rattle.sheet.specs.Sheet.{row_at, RowsGiven};
 
 use crate::row::Row;
 use crate::{ROW, row};
+use dispatch::ServedDay;
 
 // The number of the first call, as in the print.
 const FIRST: u64 = 0;
 
-// A row for each call, into the front of the buffer: its place, and the crane, the metres and the least of the same index.
-pub(crate) fn put(requests: &[u16], cranes: &[u16], metres: &[u32], leasts: &[u64], out: &mut [u8])
-    requires { RowsGiven requests.now cranes.now metres.now leasts.now out.old }
-    ensures { out.new ≡ splice 0 (flat_map row_bytes (up_to (length requests.now) (row_at requests.now cranes.now metres.now leasts.now))) out.old }
+// A row for each call, into the front of the buffer: its place, and the crane, the metres and the least of the served day at the same index.
+pub(crate) fn put(requests: &[u16], served: &ServedDay, out: &mut [u8])
+    requires { RowsGiven requests.now served.now.cranes served.now.metres served.now.leasts out.old }
+    ensures { out.new ≡ splice 0 (flat_map row_bytes (up_to (length requests.now) (row_at requests.now served.now.cranes served.now.metres served.now.leasts))) out.old }
 {
-    let mut i = 0;
-    while i < requests.len() {
+    for (i, place) in requests.iter().enumerate() {
         let r = Row {
             call: FIRST + i as u64,
-            place: requests[i] as u64,
-            crane: cranes[i] as u64,
-            metres: metres[i] as u64,
-            least: leasts[i],
+            place: u64::from(*place),
+            crane: u64::from(served.cranes[i]),
+            metres: u64::from(served.metres[i]),
+            least: served.leasts[i],
         };
         row::put(r, out, ROW * i);
-        i += 1;
     }
 }

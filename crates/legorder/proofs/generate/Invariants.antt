@@ -1,6 +1,6 @@
 -- `legorder::generate` meets its contract: once the legs to the places below v are written, the columns begin with them.
 -- Assumes nothing.
-use Prim.Native.Nat.{ℕ, ◌-◌, ◌≤◌}
+use Prim.Native.Nat.{ℕ, ◌≤◌}
 use mathlib.Core.List.{List}
 use mathlib.Core.Path.{◌≡◌}
 use lib.ListN.{length, take}
@@ -15,6 +15,3 @@ pub record Begins (f : ℕ → ℕ → ℕ) (now : List ℕ) (v : ℕ) : Type 0 
 
 abbrev pub invariant-loop-v : goal.invariant-loop-v
 invariant-loop-v l = Begins (λ u w. u) l.firsts l.v × Begins (λ u w. w) l.seconds l.v
-
-abbrev pub decreases-loop-v : goal.decreases-loop-v
-decreases-loop-v l = most_places - l.v

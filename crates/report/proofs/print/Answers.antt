@@ -1,13 +1,16 @@
 -- `report::print` meets its contract: the text of the file in lines.
 -- Assumes nothing.
 use borrow.Author.Rules.{rules}
-use Rattle.report.specs.Report.{print_of}
+use mathlib.Core.Path.{◌≡◌}
+use Rattle.report.specs.Report.{lines_text, print_of, printed}
 use Rattle.report.proofs.Outputs.{print_fits, text_within}
 use Rattle.report.proofs.print.Goals as goal
 
 pub returns : goal.returns
 unfolding print_of
-returns c = record {
-  value = c.text_of.ensures;
-  prefix_len = text_within c.text_of.result (print_of c.args.file.now) c.text_of.ensures (print_fits _) (search rules);
-}
+returns c =
+    let told : c.of_file.result ≡ printed (print_of c.args.file.now) = c.of_file.ensures lines_text (λ day table r k. search rules) in
+    record {
+      value = told;
+      prefix_len = text_within c.of_file.result (print_of c.args.file.now) told (print_fits _) (search rules);
+    }

@@ -2,7 +2,6 @@
 -- Assumes nothing.
 use Prim.Native.Nat.{◌+◌, ◌≤◌}
 use mathlib.Core.Path.{◌≡◌, refl, ◌∙◌}
-use borrow.Author.Rules.{rules}
 use lib.ListN.{length}
 use native.Mathlib.Nat.{le_of_lt}
 use Rattle.base.proofs.Lists.{splice_ended, entries_begun, entries_turned}
@@ -26,24 +25,6 @@ seconds_fit c = rw (counted c) c.requires.1.1
 
 pub loop-u-init : goal.loop-u-init
 loop-u-init c = (entries_begun _ _ _ _ (firsts_fit (goal.at.loop-u-init c).After-legs-from), entries_begun _ _ _ _ (seconds_fit (goal.at.loop-u-init c).After-legs-from))
-
-pub overflow_add-firsts : goal.overflow_add-firsts
-overflow_add-firsts c = let h = firsts_fit (goal.at.overflow_add-firsts c).After-legs-from in search rules
-
-pub offset_bounds-firsts-from : goal.offset_bounds-firsts-from
-offset_bounds-firsts-from c = let h = firsts_fit (goal.at.offset_bounds-firsts-from c).After-legs-from in search rules
-
-pub bounds-firsts-from : goal.bounds-firsts-from
-bounds-firsts-from c = let h = firsts_fit (goal.at.bounds-firsts-from c).After-legs-from in search rules
-
-pub overflow_add-seconds : goal.overflow_add-seconds
-overflow_add-seconds c = let h = seconds_fit (goal.at.overflow_add-seconds c).After-legs-from in search rules
-
-pub offset_bounds-seconds-from : goal.offset_bounds-seconds-from
-offset_bounds-seconds-from c = let h = seconds_fit (goal.at.offset_bounds-seconds-from c).After-legs-from in search rules
-
-pub bounds-seconds-from : goal.bounds-seconds-from
-bounds-seconds-from c = let h = seconds_fit (goal.at.bounds-seconds-from c).After-legs-from in search rules
 
 pub loop-u-preserved : goal.loop-u-preserved
 loop-u-preserved c = (

@@ -1,6 +1,5 @@
 -- `near::metres::of_stands` meets its contract: the loop looks up the metres of one crane after another.
 -- Assumes nothing.
-use Prim.Native.Nat.{◌-◌}
 use lib.ListN.{length, replicate}
 use Rattle.base.proofs.Lists.{Filled}
 use Rattle.road.specs.Table.{metres_of}
@@ -10,6 +9,3 @@ use Rattle.near.proofs.metres.of_stands.Given as goal
 
 abbrev pub invariant-loop-s : goal.invariant-loop-s
 invariant-loop-s l = Filled (drive (metres_of l.table) l.stands l.place) (replicate most_cranes 0) (length l.stands) l.metres l.s
-
-abbrev pub decreases-loop-s : goal.decreases-loop-s
-decreases-loop-s l = length l.stands - l.s

@@ -6,6 +6,3 @@ use Rattle.sheet.proofs.row.put_aligned.Given as goal
 
 abbrev pub invariant-loop-at : goal.invariant-loop-at
 invariant-loop-at l = Aligning l.n (length l.initial.part) l.part l.at l.rest
-
-abbrev pub decreases-loop-at : goal.decreases-loop-at
-decreases-loop-at l = l.at

@@ -10,24 +10,17 @@ use Rattle.sheet.proofs.rows.put.Goals as goal
 pub loop-i-init : goal.loop-i-init
 loop-i-init c = rows_begun _ _ _ c.requires.fits c.requires.room
 
-pub overflow_cast-r : goal.overflow_cast-r
-overflow_cast-r c = omega (arith, c.shared_slice_known-in-loop-i-1.given c.loop-i.i)
-
-pub overflow_cast-r-in-loop-i : goal.overflow_cast-r-in-loop-i
-overflow_cast-r-in-loop-i c = omega (arith, c.shared_slice_known-in-loop-i-2-1.given c.loop-i.i)
-
-pub overflow_cast-r-in-loop-i-2 : goal.overflow_cast-r-in-loop-i-2
-overflow_cast-r-in-loop-i-2 c = omega (arith, c.shared_slice_known-in-loop-i-3-1.given c.loop-i.i)
-
 pub put-requires : goal.put-requires
-put-requires c = let told = numbered c.args.requests.now c.args.cranes.now c.args.metres.now c.args.leasts.now c.loop-i.i in
+put-requires c =
+    let told = numbered c.args.requests.now c.args.served.now.cranes c.args.served.now.metres c.args.served.now.leasts c.loop-i.i in
     let fits = c.requires.fits c.loop-i.i c.loop-i-test.true in
-    (subst Fits (sym told) fits, omega (arith, c.requires.room, c.loop-i.invariant.long))
+    (rw (c.from.ensures, c.from-in-loop-i.ensures, c.from-in-loop-i-2.ensures) (subst Fits (sym told) fits), omega (arith, c.requires.room, c.loop-i.invariant.long))
 
 pub loop-i-preserved : goal.loop-i-preserved
-loop-i-preserved c = let told = numbered c.args.requests.now c.args.cranes.now c.args.metres.now c.args.leasts.now c.loop-i.i in
+loop-i-preserved c =
+    let told = numbered c.args.requests.now c.args.served.now.cranes c.args.served.now.metres c.args.served.now.leasts c.loop-i.i in
     rows_turned _ _ _ c.requires.fits c.requires.room _ _ _ _ told c.loop-i.invariant
-    c.loop-i-test.true c.put.ensures
+    c.loop-i-test.true (rw (c.from.ensures, c.from-in-loop-i.ensures, c.from-in-loop-i-2.ensures) at c.put.ensures)
 
 pub returns : goal.returns
 returns c = splice_ended _ _ _ _ _ _ c.loop-i.invariant c.loop-i-test.false

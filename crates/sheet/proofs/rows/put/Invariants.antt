@@ -1,6 +1,5 @@
 -- `sheet::rows::put` meets its contract: the rows are written one behind another.
 -- Assumes nothing.
-use Prim.Native.Nat.{◌-◌}
 use mathlib.Core.List.{flat_map}
 use lib.ListN.{length}
 use Rattle.base.specs.Lists.{up_to}
@@ -10,7 +9,4 @@ use Rattle.sheet.specs.Sheet.{row_at}
 use Rattle.sheet.proofs.rows.put.Given as goal
 
 abbrev pub invariant-loop-i : goal.invariant-loop-i
-invariant-loop-i l = Spliced (λ k. flat_map row_bytes (up_to k (row_at l.requests l.cranes l.metres l.leasts))) 0 l.initial.out (length l.requests) l.out l.i
-
-abbrev pub decreases-loop-i : goal.decreases-loop-i
-decreases-loop-i l = length l.requests - l.i
+invariant-loop-i l = Spliced (λ k. flat_map row_bytes (up_to k (row_at l.requests l.served.cranes l.served.metres l.served.leasts))) 0 l.initial.out (length l.requests) l.out l.i

@@ -1,9 +1,9 @@
--- `report::text::put_number` meets its contract: the digits that are written at the end of the array are those of the number.
+-- `report::Printed::put_number` meets its contract: the digits that are written at the end of the array are those of the number.
 -- Assumes nothing.
 use native.Mathlib.Omega.{arith}
 use Rattle.base.proofs.Decimal.{length-decimal}
 use Rattle.report.proofs.text.Laws.{decimal_same, decimal_end}
-use Rattle.report.proofs.text.put_number.Goals as goal
+use Rattle.report.proofs.Printed.put_number.Goals as goal
 
 pub write_digits-start-requires : goal.write_digits-start-requires
 write_digits-start-requires c = rw (decimal_same c.args.n c.ranges.n.fits) (length-decimal c.args.n, omega arith)
