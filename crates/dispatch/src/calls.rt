@@ -36,10 +36,7 @@ pub(crate) fn take_all(
     requires { TakeAllGiven (entry (metres_of table.now)) starts.now calls.now plan.old weights.old costs.old }
     ensures { CallsTaken (entry (metres_of table.now)) starts.now calls.now plan.old weights.old costs.old plan.new weights.new costs.new }
 {
-    let mut i = 0;
-    while i < calls.len() {
-        let place = calls[i];
-        take(table, starts, &calls[..i], place, plan, weights, costs);
-        i += 1;
+    for (i, place) in calls.iter().enumerate() {
+        take(table, starts, &calls[..i], *place, plan, weights, costs);
     }
 }

@@ -5,7 +5,7 @@ ghost use Rattle.workfunction.specs.Movement.{work, floor as Movement·floor};
 ghost use Rattle.book.specs.Book.{starts_of, stands_of, requests_of, book_refusal};
 ghost use Rattle.dispatch.specs.Costs.{two_costs};
 
-use crate::{Costs, floor, legs, plan, weights};
+use crate::{Costs, floor, legs, lists, plan};
 use base::Verdict;
 use book::Book;
 
@@ -19,8 +19,8 @@ pub(crate) fn accepted(book: Book, table: &[u32]) -> Costs
     let kept = book.plan;
     let vouching = book.weights;
     let stops = book.cranes + book.calls;
-    let mut plan = plan::copy(stops, &kept[..]);
-    let mut weights = weights::copy(stops, &vouching[..]);
+    let mut plan = lists::copy(stops, &kept[..], 0);
+    let mut weights = lists::copy(stops, &vouching[..], 0);
     let mut costs = legs::zeros();
     legs::of_book(book, table, &mut costs[..]);
     let least = plan::cost(stops, &plan[..], &costs[..]);

@@ -44,10 +44,8 @@ fn move_all(
     requires { EndsGiven (entry (metres_of table.now)) starts.now calls.now to.now plan.old weights.old costs.old }
     ensures { EndsMoved (entry (metres_of table.now)) starts.now calls.now to.now plan.new weights.new costs.new }
 {
-    let mut end = 0;
-    while end < starts.len() {
-        move_end(table, starts, calls, end, to[end], plan, weights, costs);
-        end += 1;
+    for (end, place) in to.iter().enumerate() {
+        move_end(table, starts, calls, end, *place, plan, weights, costs);
     }
 }
 

@@ -15,6 +15,7 @@ mod floor;
 mod home;
 mod insert;
 mod legs;
+mod lists;
 mod nets;
 mod plan;
 mod quotes;

@@ -62,14 +62,12 @@ pub(crate) fn serve_all(
     ensures { (n : ℕ) (d : ℕ → ℕ → ℕ) → Roads n d (entry (metres_of table.now)) → Kept n d starts.now [] stands.old plan.old weights.old costs.old → ((i : ℕ) → i < length requests.now → get_or requests.now i 0 < n) → DayDone n d starts.now requests.now stands.old cranes.old metres.old leasts.old stands.new plan.new weights.new costs.new cranes.new metres.new leasts.new result }
 {
     let mut driven = 0;
-    let mut i = 0;
-    while i < requests.len() {
-        let place = requests[i];
+    for (i, place) in requests.iter().enumerate() {
         let step = serve_call(
             table,
             starts,
             &requests[..i],
-            place,
+            *place,
             Pick::Least,
             stands,
             plan,
@@ -80,7 +78,6 @@ pub(crate) fn serve_all(
         metres[i] = step.metres;
         leasts[i] = step.least;
         driven += step.metres as u64;
-        i += 1;
     }
     driven
 }

@@ -1,5 +1,5 @@
 -- `dispatch::calls::take_all` meets its contract: after each turn the calls so far are in the plan. Assumes nothing.
-use mathlib.Core.Path.{refl, sym}
+use mathlib.Core.Path.{refl}
 use borrow.Author.Rules.{rules}
 use lib.Seq.{length-take-le}
 use native.Mathlib.Omega.{arith}
@@ -8,9 +8,6 @@ use Rattle.dispatch.proofs.calls.take_all.Goals as goal
 
 pub loop-i-init : goal.loop-i-init
 loop-i-init c = record { most = search rules; planned = refl; weighed = refl; costed = refl; taking = λ n stands movable called. movable }
-
-pub slice_bounds-take-end : goal.slice_bounds-take-end
-slice_bounds-take-end c = sym (length-take-le _ _ c.loop-i.invariant.most)
 
 pub take-requires : goal.take-requires
 take-requires c = record {

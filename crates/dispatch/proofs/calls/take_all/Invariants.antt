@@ -1,5 +1,5 @@
 -- `dispatch::calls::take_all` meets its contract: after each turn the calls so far are in the plan. Assumes nothing.
-use Prim.Native.Nat.{ℕ, ◌-◌, ◌<◌, ◌≤◌}
+use Prim.Native.Nat.{ℕ, ◌<◌, ◌≤◌}
 use mathlib.Core.List.{List, []}
 use mathlib.Core.Path.{◌≡◌}
 use lib.IntN.{ℤ}
@@ -20,6 +20,3 @@ pub record Going (table starts calls plan₀ : List ℕ) (weights₀ : List ℤ)
 
 abbrev pub invariant-loop-i : goal.invariant-loop-i
 invariant-loop-i l = Going l.table l.starts l.calls l.initial.plan l.initial.weights l.initial.costs l.plan l.weights l.costs l.i
-
-abbrev pub decreases-loop-i : goal.decreases-loop-i
-decreases-loop-i l = length l.calls - l.i

@@ -1,6 +1,6 @@
 -- `dispatch::ends::move_all` meets its contract: after each turn the ends so far are at their places, and the others where they were.
 -- Assumes nothing.
-use Prim.Native.Nat.{ℕ, ◌-◌}
+use Prim.Native.Nat.{ℕ}
 use mathlib.Core.List.{List}
 use mathlib.Core.Path.{◌≡◌}
 use lib.IntN.{ℤ}
@@ -19,6 +19,3 @@ pub record Going (table starts calls to plan₀ : List ℕ) (weights₀ : List �
 
 abbrev pub invariant-loop-end : goal.invariant-loop-end
 invariant-loop-end l = Going l.table l.starts l.calls l.to l.initial.plan l.initial.weights l.initial.costs l.plan l.weights l.costs l.end
-
-abbrev pub decreases-loop-end : goal.decreases-loop-end
-decreases-loop-end l = length l.starts - l.end

@@ -1,5 +1,5 @@
 -- `dispatch::legs::fill_column` meets its contract: each turn fills the metres to one place. Assumes nothing.
-use Prim.Native.Nat.{ℕ, ◌+◌, ◌-◌, ◌*◌, ◌<◌, ◌≤◌, zero-le}
+use Prim.Native.Nat.{ℕ, ◌+◌, ◌*◌, ◌<◌, ◌≤◌, zero-le}
 use mathlib.Core.List.{List}
 use mathlib.Core.Path.{◌≡◌, refl, ◌∙◌}
 use lib.ListN.{length, set, length-set}
@@ -44,6 +44,3 @@ module _ (to : ℕ → ℕ) (p : ℕ) (old : List ℕ) where
 
 abbrev pub invariant-loop-x : goal.invariant-loop-x
 invariant-loop-x l = Filling (entry (metres_of l.table) l.from) l.p l.initial.costs l.costs l.x
-
-abbrev pub decreases-loop-x : goal.decreases-loop-x
-decreases-loop-x l = most_places - l.x

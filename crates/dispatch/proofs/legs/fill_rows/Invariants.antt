@@ -1,5 +1,5 @@
 -- `dispatch::legs::fill_rows` meets its contract: each turn fills the row of one place. Assumes nothing.
-use Prim.Native.Nat.{ℕ, ◌+◌, ◌-◌, ◌*◌, ◌<◌, ◌≤◌, zero-le}
+use Prim.Native.Nat.{ℕ, ◌+◌, ◌*◌, ◌<◌, ◌≤◌, zero-le}
 use mathlib.Core.List.{List}
 use mathlib.Core.Path.{◌≡◌, refl, ◌∙◌}
 use lib.ListN.{length}
@@ -51,6 +51,3 @@ module _ (read : ℕ → ℕ → ℕ) (starts calls old : List ℕ) where
 
 abbrev pub invariant-loop-x : goal.invariant-loop-x
 invariant-loop-x l = Filling (entry (metres_of l.table)) l.starts l.calls l.initial.costs l.costs l.x
-
-abbrev pub decreases-loop-x : goal.decreases-loop-x
-decreases-loop-x l = most_places - l.x

@@ -1,12 +1,14 @@
 -- `dispatch::plan::cost` meets its contract: the loop sums the legs from the stops below p, each of which is a u32.
 -- Assumes nothing.
 use Prim.Native.Nat.{ℕ, ◌+◌, ◌<◌, ◌≤◌, zero-le}
-use mathlib.Core.Path.{◌≡◌, refl, subst}
+use mathlib.Core.Path.{◌≡◌, refl, subst, ap, ◌∙◌}
+use lib.Seq.{length-take-le, get_or-take}
 use native.Mathlib.Nat.{le_antisymm}
 use native.Mathlib.Omega.{arith}
 use Rattle.workfunction.specs.Lists.{sum_below}
 use Rattle.workfunction.specs.Plan.{plan_cost}
 use Rattle.workfunction.proofs.Sums.{sum_last}
+use Rattle.dispatch.specs.Legs.{leg_at}
 use Rattle.dispatch.proofs.plan.cost.Invariants.{Summed}
 use Rattle.dispatch.proofs.plan.cost.Goals as goal
 
@@ -25,15 +27,11 @@ module _ (n : ℕ) (leg : ℕ → ℕ) where
 pub loop-p-init : goal.loop-p-init
 loop-p-init c = sum_begun _ _
 
-pub overflow_cast-plan : goal.overflow_cast-plan
-overflow_cast-plan c = omega (arith, c.shared_slice_known-in-loop-p-1.given c.loop-p.p)
-
-pub cost-requires : goal.cost-requires
-cost-requires c = (omega (arith, c.requires.few), (omega (arith, c.requires.few, c.requires.below _ c.loop-p-test.true), c.requires.costed))
-
 pub loop-p-preserved : goal.loop-p-preserved
-loop-p-preserved c = sum_turned _ _ _ _ _ c.loop-p.invariant c.loop-p-test.true c.cost.ensures (omega arith)
+loop-p-preserved c =
+    let lt : c.loop-p.p < c.args.stops = omega (arith, length-take-le _ _ c.requires.planned, c.loop-p-test.true) in
+    sum_turned _ _ _ _ _ c.loop-p.invariant lt (c.cost.ensures ∙ ap (leg_at c.args.costs.now c.loop-p.p) (get_or-take c.args.stops c.args.plan.now _ 0 lt)) (omega arith)
 
 pub returns : goal.returns
 unfolding plan_cost
-returns c = sum_ended _ _ _ _ c.loop-p.invariant c.loop-p-test.false
+returns c = sum_ended _ _ _ _ c.loop-p.invariant (omega (arith, length-take-le _ _ c.requires.planned, c.loop-p-test.false))

@@ -1,6 +1,6 @@
 -- `dispatch::plan::cost` meets its contract: the loop sums the legs from the stops below p, each of which is a u32.
 -- Assumes nothing.
-use Prim.Native.Nat.{ℕ, ◌-◌, ◌*◌, ◌≤◌}
+use Prim.Native.Nat.{ℕ, ◌*◌, ◌≤◌}
 use mathlib.Core.Path.{◌≡◌}
 use Rattle.workfunction.specs.Lists.{sum_below}
 use Rattle.book.specs.Book.{follower}
@@ -15,6 +15,3 @@ pub record Summed (n : ℕ) (leg : ℕ → ℕ) (sum p : ℕ) : Type 0 where
 
 abbrev pub invariant-loop-p : goal.invariant-loop-p
 invariant-loop-p l = Summed l.stops (λ q. leg_at l.costs q (follower l.plan q)) l.sum l.p
-
-abbrev pub decreases-loop-p : goal.decreases-loop-p
-decreases-loop-p l = l.stops - l.p

@@ -1,14 +1,14 @@
 -- `dispatch::serve::serve_all` meets its contract: after each turn the calls so far are served, and the rest of the day is ahead.
 -- Assumes nothing.
 use Prim.Native.Nat.{◌<◌}
-use mathlib.Core.Path.{refl, sym}
+use mathlib.Core.Path.{refl}
 use borrow.Author.Rules.{rules}
 use lib.ListN.{get_or, take}
 use lib.Seq.{length-take-le}
 use native.Mathlib.Omega.{arith}
 use Rattle.dayfile.specs.Day.{most_calls}
 use Rattle.dispatch.specs.Insertion.{Kept}
-use Rattle.dispatch.proofs.DayServed.{run_begun, run_turned, run_ended, crane_few}
+use Rattle.dispatch.proofs.DayServed.{run_begun, run_turned, run_ended}
 use Rattle.dispatch.proofs.serve.serve_all.Goals as goal
 use Rattle.dispatch.proofs.serve.serve_all.Goals.{At-loop-i, In-loop-i}
 
@@ -38,9 +38,6 @@ loop-i-init c = record {
   running = λ n d ways begun called. run_begun _ _ _ _ _ _ _ _ begun;
 }
 
-pub slice_bounds-serve_call-end : goal.slice_bounds-serve_call-end
-slice_bounds-serve_call-end c = sym (length-take-le _ _ c.loop-i.invariant.most)
-
 pub serve_call-step-requires : goal.serve_call-step-requires
 serve_call-step-requires c = record {
   places = _;
@@ -51,28 +48,6 @@ serve_call-step-requires c = record {
   space = rw (length-take-le _ _ c.loop-i.invariant.most) (few (goal.at.serve_call-step-requires c).In-loop-i);
   ends = λ e h. h;
 }
-
-pub overflow_cast-cranes : goal.overflow_cast-cranes
-overflow_cast-cranes c = let day = kept (goal.at.overflow_cast-cranes c).At-loop-i in
-    omega (arith, crane_few day (c.serve_call-step.ensures.answered _ _ c.requires.roads day (asked (goal.at.overflow_cast-cranes c).In-loop-i)))
-
-pub bounds-cranes-i : goal.bounds-cranes-i
-bounds-cranes-i c = omega (arith, (goal.at.bounds-cranes-i c).In-loop-i, c.requires.sent)
-
-pub bounds-metres-i : goal.bounds-metres-i
-bounds-metres-i c = omega (arith, (goal.at.bounds-metres-i c).In-loop-i, c.requires.driven)
-
-pub offset_bounds-leasts-i : goal.offset_bounds-leasts-i
-offset_bounds-leasts-i c = omega (arith, few (goal.at.offset_bounds-leasts-i c).In-loop-i)
-
-pub bounds-leasts-i : goal.bounds-leasts-i
-bounds-leasts-i c = omega (arith, (goal.at.bounds-leasts-i c).In-loop-i, c.requires.costed)
-
-pub overflow_add-driven : goal.overflow_add-driven
-overflow_add-driven c = omega (arith, few (goal.at.overflow_add-driven c).In-loop-i, c.loop-i.invariant.low)
-
-pub overflow_add-i : goal.overflow_add-i
-overflow_add-i c = omega (arith, few (goal.at.overflow_add-i c).In-loop-i)
 
 pub loop-i-preserved : goal.loop-i-preserved
 loop-i-preserved c = record {

@@ -1,6 +1,6 @@
 -- `dispatch::serve::serve_all` meets its contract: after each turn the calls so far are served, and the rest of the day is ahead.
 -- Assumes nothing.
-use Prim.Native.Nat.{ℕ, ◌-◌, ◌*◌, ◌<◌, ◌≤◌}
+use Prim.Native.Nat.{ℕ, ◌*◌, ◌<◌, ◌≤◌}
 use mathlib.Core.List.{List, []}
 use mathlib.Core.Path.{◌≡◌}
 use lib.IntN.{ℤ}
@@ -29,6 +29,3 @@ pub record Going (table starts requests stands₀ plan₀ : List ℕ) (weights�
 abbrev pub invariant-loop-i : goal.invariant-loop-i
 invariant-loop-i l = Going l.table l.starts l.requests l.initial.stands l.initial.plan l.initial.weights l.initial.costs l.initial.cranes l.initial.metres l.initial.leasts
     l.stands l.plan l.weights l.costs l.cranes l.metres l.leasts l.driven l.i
-
-abbrev pub decreases-loop-i : goal.decreases-loop-i
-decreases-loop-i l = length l.requests - l.i
