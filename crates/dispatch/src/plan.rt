@@ -45,9 +45,7 @@ pub(crate) fn cost(stops: usize, plan: &[u16], costs: &[u32]) -> u64
     requires { CostGiven stops plan.now costs.now }
     ensures { result ≡ plan_cost stops (leg_at costs.now) (follower plan.now) }
 {
-    let mut sum = 0;
-    for (p, b) in plan[..stops].iter().enumerate() {
-        sum += legs::cost(costs, p, *b as usize) as u64;
-    }
-    sum
+    (0..stops)
+        .map(|p| legs::cost(costs, p, plan[p] as usize) as u64)
+        .sum()
 }

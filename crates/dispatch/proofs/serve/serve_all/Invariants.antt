@@ -14,5 +14,5 @@ invariant-loop-i l = record {
   running : (n : ℕ) (d : ℕ → ℕ → ℕ) → Roads n d (entry (metres_of l.table)) → Kept n d l.starts [] l.initial.stands l.initial.plan l.initial.weights l.initial.costs
       → ((j : ℕ) → j < length l.requests → get_or l.requests j 0 < n)
       → Running n d l.starts l.requests l.initial.stands l.initial.cranes l.initial.metres l.initial.leasts
-      l.stands l.plan l.weights l.costs l.cranes l.metres l.leasts l.driven l.i
+      l.stands l.plan l.weights l.costs l.cranes l.metres l.leasts l.driven l.i;
 }
