@@ -16,6 +16,7 @@ mod home;
 mod insert;
 mod legs;
 mod lists;
+mod matching;
 mod nets;
 mod plan;
 mod quotes;

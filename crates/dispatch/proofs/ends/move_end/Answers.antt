@@ -50,13 +50,6 @@ pub replace-requires : goal.replace-requires
 replace-requires c = let room = few (goal.at.replace-requires c).Start in
     search rules
 
-pub offset_bounds-weights-end : goal.offset_bounds-weights-end
-offset_bounds-weights-end c = let low = end_low (goal.at.offset_bounds-weights-end c).Start in search rules
-
-pub slice_set_of-weights : goal.slice_set_of-weights
-slice_set_of-weights c = let low = end_low (goal.at.slice_set_of-weights c).Start in
-    search rules
-
 pub put-requires : goal.put-requires
 put-requires c = let low = end_low (goal.at.put-requires c).Start in
     (omega arith, (on_road (goal.at.put-requires c).Start, c.extend.ensures.costed))

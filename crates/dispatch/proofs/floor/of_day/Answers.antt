@@ -30,7 +30,7 @@ own c =
 
 -- the plan with all calls
 taken : (c : After-take_all) → Movable c.requires.places (entry (metres_of c.args.table.now)) c.args.starts.now c.args.requests.now c.args.starts.now
-    c.take_all.new.plan c.take_all.new.weights c.take_all.new.costs
+    c.take_all.new.matching.plan c.take_all.new.matching.weights c.take_all.new.matching.costs
 taken c =
     let called_here : (i : ℕ) → i < length c.args.requests.now → get_or c.args.requests.now i 0 < c.requires.places = λ i h. c.requires.asked.day.called (entry_in _ i h)
     in

@@ -1,5 +1,6 @@
 -- `dispatch::serve::serve_all` meets its contract: after each turn the calls so far are served, and the rest of the day is ahead.
 -- Assumes nothing.
+use mathlib.Core.Path.{refl}
 use borrow.Author.Rules.{rules}
 use lib.Seq.{length-take-le}
 use native.Mathlib.Omega.{arith}
@@ -8,27 +9,31 @@ use Rattle.dispatch.proofs.serve.serve_all.Goals as goal
 use Rattle.dispatch.proofs.serve.serve_all.Goals.{At-loop-i, In-loop-i}
 
 pub loop-i-init : goal.loop-i-init
-loop-i-init c = record { low = search rules; running = λ n d ways begun called. run_begun _ _ _ _ _ _ _ _ begun }
+loop-i-init c = record { low = search rules; sized = (refl, refl); running = λ n d ways begun called. run_begun _ _ _ _ _ _ _ _ begun }
 
 pub serve_call-step-requires : goal.serve_call-step-requires
-serve_call-step-requires c = record {
-  places = _;
-  metres = _;
-  roads = c.requires.roads;
-  kept = (c.loop-i.invariant.running _ _ c.requires.roads c.requires.kept c.requires.called).kept;
-  on = c.requires.called _ c.loop-i-test.true;
-  space = omega (arith, length-take-le c.loop-i.i c.args.requests.now (omega arith), c.requires.few);
-  ends = λ e h. h;
-}
+serve_call-step-requires c = (
+  omega arith,
+  record {
+    places = _;
+    metres = _;
+    roads = c.requires.roads;
+    kept = (c.loop-i.invariant.running _ _ c.requires.roads c.requires.kept c.requires.called).kept;
+    on = c.requires.called _ c.loop-i-test.true;
+    space = omega (arith, length-take-le c.loop-i.i c.args.requests.now (omega arith), c.requires.few);
+    ends = λ e h. h;
+  },
+)
 
 pub loop-i-preserved : goal.loop-i-preserved
 loop-i-preserved c = record {
   low = omega (arith, c.loop-i.invariant.low);
+  sized = (omega arith, omega arith);
   running = λ n d ways begun called.
       let run = c.loop-i.invariant.running n d ways begun called in
       run_turned _ _ _ _ _ _ _ _ run c.loop-i-test.true c.requires.sent c.requires.driven c.requires.costed
-      (c.serve_call-step.ensures.answered n d ways run.kept (called c.loop-i.i c.loop-i-test.true));
+      (c.serve_call-step.ensures.served.answered n d ways run.kept (called c.loop-i.i c.loop-i-test.true));
 }
 
-pub returns : goal.returns
-returns c = λ n d ways begun called. run_ended _ _ _ _ _ _ _ _ (c.loop-i.invariant.running n d ways begun called) c.loop-i-test.false
+pub returns-clause-done : goal.returns-clause-done
+returns-clause-done c = λ n d ways begun called. run_ended _ _ _ _ _ _ _ _ (c.loop-i.invariant.running n d ways begun called) c.loop-i-test.false
