@@ -41,9 +41,6 @@ taken c =
     in
     c.take_all.ensures.there c.requires.places c.args.starts.now (own_here) (called_here)
 
-pub own-plan-requires : goal.own-plan-requires
-own-plan-requires c = omega (arith, c.requires.asked.cranes)
-
 pub fill-requires : goal.fill-requires
 fill-requires c = record {
   aligned = refl;

@@ -52,9 +52,6 @@ insert-crane-requires g c = let few = room (goal.at.insert-crane-requires g c).S
       witnessed = kept_witnessed c.requires.roads.legible c.requires.kept (omega arith) (long (goal.at.insert-crane-requires g c).Start) c.requires.on c.extend.ensures;
     }
 
-pub put-requires : goal.put-requires
-put-requires g c = (omega (arith, sent_low (goal.at.put-requires g c).After-insert-crane), (on_road (goal.at.put-requires g c).Start, c.extend.ensures.costed))
-
 pub cost-requires : goal.cost-requires
 cost-requires g c = let few = room (goal.at.cost-requires g c).Start in
     record {
