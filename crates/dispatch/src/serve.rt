@@ -53,6 +53,7 @@ pub(crate) fn serve_call<const N: usize>(
 }
 
 // Serves all requests in turn, and answers the sum of the drives.
+// The figures go into one array of each kind and not into a list of `Step`, since `ServedDay` hands them out so.
 pub(crate) fn serve_all(
     table: &[u32],
     starts: &[u16],
