@@ -3,6 +3,7 @@ ghost use Rattle.road.specs.Table.{metres_of, entry};
 ghost use Rattle.dispatch.specs.Insertion.{TakeGiven, CallTaken, TakeAllGiven, CallsTaken};
 
 use crate::insert::Pick;
+use crate::matching::Matching;
 use crate::{insert, legs};
 
 // Takes in a call at `place`, after `calls`: the end of the least net cost and way from it together follows it.
@@ -11,17 +12,22 @@ fn take(
     starts: &[u16],
     calls: &[u16],
     place: u16,
-    plan: &mut [u16],
-    weights: &mut [i64],
-    costs: &mut [u32],
+    matching: &mut Matching<{ legs::ROOM }>,
 )
-    requires { TakeGiven (entry (metres_of table.now)) starts.now calls.now place plan.old weights.old costs.old }
-    ensures { CallTaken (entry (metres_of table.now)) starts.now calls.now place plan.old weights.old costs.old plan.new weights.new costs.new }
+    requires { TakeGiven (entry (metres_of table.now)) starts.now calls.now place matching.old.plan matching.old.weights matching.old.costs }
+    ensures { CallTaken (entry (metres_of table.now)) starts.now calls.now place matching.old.plan matching.old.weights matching.old.costs matching.new.plan matching.new.weights matching.new.costs }
 {
     let cranes = starts.len();
     let new = cranes + calls.len();
-    legs::extend(table, new, place, costs);
-    insert::insert(cranes, new, Pick::Least, costs, plan, weights);
+    legs::extend(table, new, place, &mut matching.costs[..]);
+    insert::insert(
+        cranes,
+        new,
+        Pick::Least,
+        &matching.costs[..],
+        &mut matching.plan[..],
+        &mut matching.weights[..],
+    );
 }
 
 // Takes in all calls, one after another, into a plan without calls.
@@ -29,17 +35,12 @@ pub(crate) fn take_all(
     table: &[u32],
     starts: &[u16],
     calls: &[u16],
-    plan: &mut [u16],
-    weights: &mut [i64],
-    costs: &mut [u32],
+    matching: &mut Matching<{ legs::ROOM }>,
 )
-    requires { TakeAllGiven (entry (metres_of table.now)) starts.now calls.now plan.old weights.old costs.old }
-    ensures { CallsTaken (entry (metres_of table.now)) starts.now calls.now plan.old weights.old costs.old plan.new weights.new costs.new }
+    requires { TakeAllGiven (entry (metres_of table.now)) starts.now calls.now matching.old.plan matching.old.weights matching.old.costs }
+    ensures { CallsTaken (entry (metres_of table.now)) starts.now calls.now matching.old.plan matching.old.weights matching.old.costs matching.new.plan matching.new.weights matching.new.costs }
 {
-    let mut i = 0;
-    while i < calls.len() {
-        let place = calls[i];
-        take(table, starts, &calls[..i], place, plan, weights, costs);
-        i += 1;
+    for (i, place) in calls.iter().enumerate() {
+        take(table, starts, &calls[..i], *place, matching);
     }
 }

@@ -4,6 +4,7 @@ ghost use Rattle.base.specs.Numbers.{number_of};
 ghost use Rattle.dispatch.specs.Commit.{commit_refusal, tidied, book_after, drive_of, least_after, committed, Next};
 
 use crate::insert::Pick;
+use crate::matching::Matching;
 use crate::{Commit, call, legs, serve, tidy};
 use base::Refusal;
 use book::Book;
@@ -35,11 +36,16 @@ pub(crate) fn accepted(book: Book, table: &[u32], place: u16, crane: usize) -> C
     let starts = tidy.starts;
     let mut requests = tidy.requests;
     let mut stands = tidy.stands;
-    let mut plan = tidy.plan;
-    let mut weights = tidy.weights;
     let mut driven = tidy.driven;
-    let mut costs = legs::zeros();
-    legs::of_book(tidy, table, &mut costs[..]);
+    let plan = tidy.plan;
+    let weights = tidy.weights;
+    let costs = legs::zeros();
+    let mut matching = Matching {
+        plan,
+        weights,
+        costs,
+    };
+    legs::of_book(tidy, table, &mut matching.costs[..]);
     let step = serve::serve_call(
         table,
         &starts[..tidy.cranes],
@@ -47,10 +53,9 @@ pub(crate) fn accepted(book: Book, table: &[u32], place: u16, crane: usize) -> C
         place,
         Pick::End(crane),
         &mut stands[..tidy.cranes],
-        &mut plan[..],
-        &mut weights[..],
-        &mut costs[..],
+        &mut matching,
     );
+    let Matching { plan, weights, .. } = matching;
     requests[calls] = place;
     let sent = step.crane;
     driven[sent] += step.metres;

@@ -5,7 +5,8 @@ ghost use Rattle.workfunction.specs.Movement.{work, floor as Movement·floor};
 ghost use Rattle.book.specs.Book.{starts_of, stands_of, requests_of, book_refusal};
 ghost use Rattle.dispatch.specs.Costs.{two_costs};
 
-use crate::{Costs, floor, legs, plan, weights};
+use crate::matching::Matching;
+use crate::{Costs, floor, legs, lists, plan};
 use book::Book;
 
 // The least is the cost of the kept plan, the floor that of the plan with its ends moved to the starts.
@@ -18,18 +19,21 @@ pub(crate) fn accepted(book: Book, table: &[u32]) -> Costs
     let kept = book.plan;
     let vouching = book.weights;
     let stops = book.cranes + book.calls;
-    let mut plan = plan::copy(stops, &kept[..]);
-    let mut weights = weights::copy(stops, &vouching[..]);
-    let mut costs = legs::zeros();
-    legs::of_book(book, table, &mut costs[..]);
-    let least = plan::cost(stops, &plan[..], &costs[..]);
+    let plan = lists::copy(stops, &kept[..], 0);
+    let weights = lists::copy(stops, &vouching[..], 0);
+    let costs = legs::zeros();
+    let mut matching = Matching {
+        plan,
+        weights,
+        costs,
+    };
+    legs::of_book(book, table, &mut matching.costs[..]);
+    let least = plan::cost(stops, &matching.plan[..], &matching.costs[..]);
     let floor = floor::floor(
         table,
         &starts[..book.cranes],
         &requests[..book.calls],
-        &mut plan[..],
-        &mut weights[..],
-        &mut costs[..],
+        &mut matching,
     );
     Costs { least, floor }
 }

@@ -4,6 +4,7 @@ ghost use Rattle.dayfile.specs.Day.{day_refusal};
 ghost use Rattle.book.specs.Book.{fresh_book};
 ghost use Rattle.dispatch.specs.ServedDay.{day_figures, served_day};
 
+use crate::matching::Matching;
 use crate::{ServedDay, floor, home, legs, plan, serve, weights};
 use book::Book;
 use dayfile::Day;
@@ -17,21 +18,24 @@ pub(crate) fn served(day: Day, fresh: Book, table: &[u32]) -> ServedDay
     let starts = fresh.starts;
     let requests = day.requests;
     let mut stands = fresh.stands;
-    let mut plan = plan::own(cranes);
-    let mut weights = weights::zeros();
-    let mut costs = legs::zeros();
+    let plan = plan::own(cranes);
+    let weights = weights::zeros();
+    let costs = legs::zeros();
+    let mut matching = Matching {
+        plan,
+        weights,
+        costs,
+    };
     let mut sent = [0; Book::CALLS];
     let mut metres = [0; Book::CALLS];
     let mut leasts = [0; Book::CALLS];
-    legs::of_book(fresh, table, &mut costs[..]);
+    legs::of_book(fresh, table, &mut matching.costs[..]);
     let driven = serve::serve_all(
         table,
         &starts[..cranes],
         &requests[..day.calls],
         &mut stands[..cranes],
-        &mut plan[..],
-        &mut weights[..],
-        &mut costs[..],
+        &mut matching,
         &mut sent[..],
         &mut metres[..],
         &mut leasts[..],
@@ -40,11 +44,9 @@ pub(crate) fn served(day: Day, fresh: Book, table: &[u32]) -> ServedDay
         table,
         &starts[..cranes],
         &requests[..day.calls],
-        &mut plan[..],
-        &mut weights[..],
-        &mut costs[..],
+        &mut matching,
     );
-    let home = home::home(table, &stands[..cranes], &starts[..cranes], &mut costs[..]);
+    let home = home::home(table, &stands[..cranes], &starts[..cranes], &mut matching);
     ServedDay {
         calls: day.calls,
         cranes: sent,

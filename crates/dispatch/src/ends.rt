@@ -6,6 +6,7 @@ ghost use Rattle.dispatch.specs.Legs.{Costed};
 ghost use Rattle.dispatch.specs.Insertion.{EndGiven, EndMoved, EndsGiven, EndsMoved};
 
 use crate::insert::Pick;
+use crate::matching::Matching;
 use crate::{insert, legs, plan};
 
 // Moves an end to `place`: a call there is taken in for it, and the stop that the call then follows takes the end in its stead.
@@ -15,20 +16,25 @@ fn move_end(
     calls: &[u16],
     end: usize,
     place: u16,
-    plan: &mut [u16],
-    weights: &mut [i64],
-    costs: &mut [u32],
+    matching: &mut Matching<{ legs::ROOM }>,
 )
-    requires { EndGiven (entry (metres_of table.now)) starts.now calls.now end place plan.old weights.old costs.old }
-    ensures { EndMoved (entry (metres_of table.now)) starts.now calls.now end place plan.old weights.old costs.old plan.new weights.new costs.new }
+    requires { EndGiven (entry (metres_of table.now)) starts.now calls.now end place matching.old.plan matching.old.weights matching.old.costs }
+    ensures { EndMoved (entry (metres_of table.now)) starts.now calls.now end place matching.old.plan matching.old.weights matching.old.costs matching.new.plan matching.new.weights matching.new.costs }
 {
     let cranes = starts.len();
     let stops = cranes + calls.len();
-    legs::extend(table, stops, place, costs);
-    insert::insert(cranes, stops, Pick::End(end), costs, plan, weights);
-    plan::replace(stops, stops as u16, end as u16, plan);
-    weights[end] = 0;
-    legs::put(end, place, costs);
+    legs::extend(table, stops, place, &mut matching.costs[..]);
+    insert::insert(
+        cranes,
+        stops,
+        Pick::End(end),
+        &matching.costs[..],
+        &mut matching.plan[..],
+        &mut matching.weights[..],
+    );
+    plan::replace(stops, stops as u16, end as u16, &mut matching.plan[..]);
+    matching.weights[end] = 0;
+    legs::put(end, place, &mut matching.costs[..]);
 }
 
 // Moves every end to its place in a list, one after another.
@@ -37,17 +43,13 @@ fn move_all(
     starts: &[u16],
     calls: &[u16],
     to: &[u16],
-    plan: &mut [u16],
-    weights: &mut [i64],
-    costs: &mut [u32],
+    matching: &mut Matching<{ legs::ROOM }>,
 )
-    requires { EndsGiven (entry (metres_of table.now)) starts.now calls.now to.now plan.old weights.old costs.old }
-    ensures { EndsMoved (entry (metres_of table.now)) starts.now calls.now to.now plan.new weights.new costs.new }
+    requires { EndsGiven (entry (metres_of table.now)) starts.now calls.now to.now matching.old.plan matching.old.weights matching.old.costs }
+    ensures { EndsMoved (entry (metres_of table.now)) starts.now calls.now to.now matching.new.plan matching.new.weights matching.new.costs }
 {
-    let mut end = 0;
-    while end < starts.len() {
-        move_end(table, starts, calls, end, to[end], plan, weights, costs);
-        end += 1;
+    for (end, place) in to.iter().enumerate() {
+        move_end(table, starts, calls, end, *place, matching);
     }
 }
 
@@ -57,13 +59,15 @@ pub(crate) fn least(
     starts: &[u16],
     calls: &[u16],
     to: &[u16],
-    plan: &mut [u16],
-    weights: &mut [i64],
-    costs: &mut [u32],
+    matching: &mut Matching<{ legs::ROOM }>,
 ) -> u64
-    requires { EndsGiven (entry (metres_of table.now)) starts.now calls.now to.now plan.old weights.old costs.old }
-    ensures { (result ≡ least_plan (length starts.now) (stops starts.now calls.now) (leg_cost (entry (metres_of table.now)) starts.now calls.now to.now)) × Costed costs.new }
+    requires { EndsGiven (entry (metres_of table.now)) starts.now calls.now to.now matching.old.plan matching.old.weights matching.old.costs }
+    ensures { (result ≡ least_plan (length starts.now) (stops starts.now calls.now) (leg_cost (entry (metres_of table.now)) starts.now calls.now to.now)) × Costed matching.new.costs }
 {
-    move_all(table, starts, calls, to, plan, weights, costs);
-    plan::cost(starts.len() + calls.len(), plan, costs)
+    move_all(table, starts, calls, to, matching);
+    plan::cost(
+        starts.len() + calls.len(),
+        &matching.plan[..],
+        &matching.costs[..],
+    )
 }

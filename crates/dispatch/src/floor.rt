@@ -5,6 +5,7 @@ ghost use Rattle.workfunction.specs.Plan.{plan_floor};
 ghost use Rattle.dispatch.specs.Legs.{Costed};
 ghost use Rattle.dispatch.specs.Insertion.{EndsGiven, PlanGiven};
 
+use crate::matching::Matching;
 use crate::{calls, ends, legs, plan, weights};
 
 // From a plan to any ends.
@@ -12,14 +13,12 @@ pub(crate) fn floor(
     table: &[u32],
     starts: &[u16],
     calls: &[u16],
-    plan: &mut [u16],
-    weights: &mut [i64],
-    costs: &mut [u32],
+    matching: &mut Matching<{ legs::ROOM }>,
 ) -> u64
-    requires { EndsGiven (entry (metres_of table.now)) starts.now calls.now starts.now plan.old weights.old costs.old }
-    ensures { (result ≡ plan_floor (entry (metres_of table.now)) starts.now calls.now) × Costed costs.new }
+    requires { EndsGiven (entry (metres_of table.now)) starts.now calls.now starts.now matching.old.plan matching.old.weights matching.old.costs }
+    ensures { (result ≡ plan_floor (entry (metres_of table.now)) starts.now calls.now) × Costed matching.new.costs }
 {
-    ends::least(table, starts, calls, starts, plan, weights, costs)
+    ends::least(table, starts, calls, starts, matching)
 }
 
 // From no plan: at first each start is followed by itself, then the calls are taken in.
@@ -27,17 +26,25 @@ pub(crate) fn of_day(table: &[u32], starts: &[u16], requests: &[u16]) -> u64
     requires { PlanGiven (entry (metres_of table.now)) starts.now requests.now }
     ensures { result ≡ plan_floor (entry (metres_of table.now)) starts.now requests.now }
 {
-    let mut plan = plan::own(starts.len());
-    let mut weights = weights::zeros();
-    let mut costs = legs::zeros();
-    legs::fill(table, starts, &requests[..0], starts, &mut costs[..]);
-    calls::take_all(
+    let plan = plan::own(starts.len());
+    let weights = weights::zeros();
+    let costs = legs::zeros();
+    let mut matching = Matching {
+        plan,
+        weights,
+        costs,
+    };
+    legs::fill(
         table,
         starts,
-        requests,
-        &mut plan[..],
-        &mut weights[..],
-        &mut costs[..],
+        &requests[..0],
+        starts,
+        &mut matching.costs[..],
     );
-    plan::cost(starts.len() + requests.len(), &plan[..], &costs[..])
+    calls::take_all(table, starts, requests, &mut matching);
+    plan::cost(
+        starts.len() + requests.len(),
+        &matching.plan[..],
+        &matching.costs[..],
+    )
 }

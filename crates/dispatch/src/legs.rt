@@ -57,10 +57,8 @@ fn fill_from(table: &[u32], places: &[u16], to: usize, row: &mut [u32])
     requires { length row.old ≤ length places.now }
     ensures { row.new ≡ up_to (length row.old) (λ p. entry (metres_of table.now) (get_or places.now p 0) to) }
 {
-    let mut p = 0;
-    while p < row.len() {
-        row[p] = Road::metres(table, places[p] as usize, to);
-        p += 1;
+    for (p, metres) in row.iter_mut().enumerate() {
+        *metres = Road::metres(table, places[p] as usize, to);
     }
 }
 
@@ -80,11 +78,9 @@ fn fill_rows(table: &[u32], starts: &[u16], calls: &[u16], costs: &mut [u32])
     ensures { RowsFilled most_places (entry (metres_of table.now)) starts.now calls.now costs.old costs.new }
 {
     let stops = starts.len() + calls.len();
-    let mut x = 0;
-    while x < Road::PLACES {
+    for x in 0..Road::PLACES {
         let at = ROOM * x;
         fill_row(table, starts, calls, x, &mut costs[at..at + stops]);
-        x += 1;
     }
 }
 
@@ -101,10 +97,8 @@ fn put_all(places: &[u16], first: usize, costs: &mut [u32])
     requires { FollowersGiven places.now first costs.old }
     ensures { FollowersPut (length places.now) first places.now costs.old costs.new }
 {
-    let mut i = 0;
-    while i < places.len() {
-        put(first + i, places[i], costs);
-        i += 1;
+    for (i, place) in places.iter().enumerate() {
+        put(first + i, *place, costs);
     }
 }
 
@@ -140,10 +134,8 @@ fn fill_column(table: &[u32], from: usize, p: usize, costs: &mut [u32])
     requires { (p < plan_room) × Costed costs.old }
     ensures { ColumnFilled most_places (entry (metres_of table.now) from) p costs.old costs.new }
 {
-    let mut x = 0;
-    while x < Road::PLACES {
+    for x in 0..Road::PLACES {
         costs[ROOM * x + p] = Road::metres(table, from, x);
-        x += 1;
     }
 }
 

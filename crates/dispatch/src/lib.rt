@@ -15,6 +15,8 @@ mod floor;
 mod home;
 mod insert;
 mod legs;
+mod lists;
+mod matching;
 mod nets;
 mod plan;
 mod quotes;

@@ -1,4 +1,4 @@
-// The cost of a plan, and lists of followers: that of a plan without calls, a copy, one follower in another's place.
+// The cost of a plan, and lists of followers: that of a plan without calls, one follower in another's place.
 ghost use Rattle.std.specs.Prelude.{◌++◌, ◌≡◌, ◌≤◌, length, drop};
 ghost use Rattle.base.specs.Lists.{up_to, padded};
 ghost use Rattle.workfunction.specs.Plan.{plan_cost};
@@ -14,24 +14,8 @@ pub(crate) fn own(count: usize) -> [u16; legs::ROOM]
     ensures { result ≡ padded plan_room count (λ i. i) 0 }
 {
     let mut list = [0; legs::ROOM];
-    let mut i = 0;
-    while i < count {
+    for i in 0..count {
         list[i] = i as u16;
-        i += 1;
-    }
-    list
-}
-
-// The list whose entries below a count are those of another one.
-pub(crate) fn copy(count: usize, from: &[u16]) -> [u16; legs::ROOM]
-    requires { (count ≤ plan_room) × (count ≤ length from.now) }
-    ensures { result ≡ padded plan_room count (follower from.now) 0 }
-{
-    let mut list = [0; legs::ROOM];
-    let mut i = 0;
-    while i < count {
-        list[i] = from[i];
-        i += 1;
     }
     list
 }
@@ -51,10 +35,8 @@ pub(crate) fn replace(count: usize, old: u16, new: u16, list: &mut [u16])
     requires { count ≤ length list.old }
     ensures { list.new ≡ up_to count (λ p. Insertion·instead old new (follower list.old p)) ++ drop count list.old }
 {
-    let mut p = 0;
-    while p < count {
-        list[p] = instead(old, new, list[p]);
-        p += 1;
+    for b in list[..count].iter_mut() {
+        *b = instead(old, new, *b);
     }
 }
 
@@ -63,11 +45,7 @@ pub(crate) fn cost(stops: usize, plan: &[u16], costs: &[u32]) -> u64
     requires { CostGiven stops plan.now costs.now }
     ensures { result ≡ plan_cost stops (leg_at costs.now) (follower plan.now) }
 {
-    let mut sum = 0;
-    let mut p = 0;
-    while p < stops {
-        sum += legs::cost(costs, p, plan[p] as usize) as u64;
-        p += 1;
-    }
-    sum
+    (0..stops)
+        .map(|p| legs::cost(costs, p, plan[p] as usize) as u64)
+        .sum()
 }

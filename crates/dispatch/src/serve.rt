@@ -1,9 +1,10 @@
 // Serving calls: one, and all of a day in turn, from a plan with weights that vouch for it.
-ghost use Rattle.std.specs.Prelude.{[], ℕ, ◌<◌, length, get_or};
+ghost use Rattle.std.specs.Prelude.{[], ℕ, ◌≡◌, ◌<◌, length, get_or};
 ghost use Rattle.road.specs.Table.{metres_of, entry};
 ghost use Rattle.dispatch.specs.Insertion.{Roads, Kept, CallGiven, CallServed, DayGiven, DayDone};
 
 use crate::insert::Pick;
+use crate::matching::Matching;
 use crate::{insert, legs, plan};
 use road::Road;
 
@@ -16,71 +17,72 @@ pub(crate) struct Step {
 }
 
 // Serves a call at `place`, after `calls`, by the crane that is picked.
-pub(crate) fn serve_call(
+pub(crate) fn serve_call<const N: usize>(
     table: &[u32],
     starts: &[u16],
     calls: &[u16],
     place: u16,
     pick: Pick,
     stands: &mut [u16],
-    plan: &mut [u16],
-    weights: &mut [i64],
-    costs: &mut [u32],
+    matching: &mut Matching<N>,
 ) -> Step
-    requires { CallGiven (entry (metres_of table.now)) starts.now calls.now place pick stands.old plan.old weights.old costs.old }
-    ensures { CallServed (entry (metres_of table.now)) starts.now calls.now place pick stands.old plan.old weights.old costs.old (record { crane = result.crane; metres = result.metres; least = result.least }) stands.new plan.new weights.new costs.new }
+    requires { CallGiven (entry (metres_of table.now)) starts.now calls.now place pick stands.old matching.old.plan matching.old.weights matching.old.costs }
+    ensures served { CallServed (entry (metres_of table.now)) starts.now calls.now place pick stands.old matching.old.plan matching.old.weights matching.old.costs (record { crane = result.crane; metres = result.metres; least = result.least }) stands.new matching.new.plan matching.new.weights matching.new.costs }
+    ensures sized { (length matching.new.plan ≡ length matching.old.plan) × (length matching.new.weights ≡ length matching.old.weights) }
 {
     let cranes = starts.len();
     let new = cranes + calls.len();
-    legs::extend(table, new, place, costs);
-    let crane = insert::insert(cranes, new, pick, costs, plan, weights);
+    legs::extend(table, new, place, &mut matching.costs[..]);
+    let crane = insert::insert(
+        cranes,
+        new,
+        pick,
+        &matching.costs[..],
+        &mut matching.plan[..],
+        &mut matching.weights[..],
+    );
     let metres = Road::metres(table, stands[crane] as usize, place as usize);
     stands[crane] = place;
-    weights[crane] = 0;
-    legs::put(crane, place, costs);
+    matching.weights[crane] = 0;
+    legs::put(crane, place, &mut matching.costs[..]);
     Step {
         crane,
         metres,
-        least: plan::cost(new + 1, plan, costs),
+        least: plan::cost(new + 1, &matching.plan[..], &matching.costs[..]),
     }
 }
 
 // Serves all requests in turn, and answers the sum of the drives.
+// The figures go into one array of each kind and not into a list of `Step`, since `ServedDay` hands them out so.
 pub(crate) fn serve_all(
     table: &[u32],
     starts: &[u16],
     requests: &[u16],
     stands: &mut [u16],
-    plan: &mut [u16],
-    weights: &mut [i64],
-    costs: &mut [u32],
+    matching: &mut Matching<{ legs::ROOM }>,
     cranes: &mut [u16],
     metres: &mut [u32],
     leasts: &mut [u64],
 ) -> u64
-    requires { DayGiven (entry (metres_of table.now)) starts.now requests.now stands.old plan.old weights.old costs.old cranes.old metres.old leasts.old }
-    ensures { (n : ℕ) (d : ℕ → ℕ → ℕ) → Roads n d (entry (metres_of table.now)) → Kept n d starts.now [] stands.old plan.old weights.old costs.old → ((i : ℕ) → i < length requests.now → get_or requests.now i 0 < n) → DayDone n d starts.now requests.now stands.old cranes.old metres.old leasts.old stands.new plan.new weights.new costs.new cranes.new metres.new leasts.new result }
+    requires { DayGiven (entry (metres_of table.now)) starts.now requests.now stands.old matching.old.plan matching.old.weights matching.old.costs cranes.old metres.old leasts.old }
+    ensures done { (n : ℕ) (d : ℕ → ℕ → ℕ) → Roads n d (entry (metres_of table.now)) → Kept n d starts.now [] stands.old matching.old.plan matching.old.weights matching.old.costs → ((i : ℕ) → i < length requests.now → get_or requests.now i 0 < n) → DayDone n d starts.now requests.now stands.old cranes.old metres.old leasts.old stands.new matching.new.plan matching.new.weights matching.new.costs cranes.new metres.new leasts.new result }
+    ensures sized { (length matching.new.plan ≡ length matching.old.plan) × (length matching.new.weights ≡ length matching.old.weights) }
 {
     let mut driven = 0;
-    let mut i = 0;
-    while i < requests.len() {
-        let place = requests[i];
+    for (i, place) in requests.iter().enumerate() {
         let step = serve_call(
             table,
             starts,
             &requests[..i],
-            place,
+            *place,
             Pick::Least,
             stands,
-            plan,
-            weights,
-            costs,
+            matching,
         );
         cranes[i] = step.crane as u16;
         metres[i] = step.metres;
         leasts[i] = step.least;
         driven += step.metres as u64;
-        i += 1;
     }
     driven
 }

@@ -1,6 +1,5 @@
-// The weights, the dual variables: new ones from net costs, those of a plan without calls, and a copy.
-ghost use Rattle.std.specs.Prelude.{◌≡◌, ◌≤◌, pos, length, replicate};
-ghost use Rattle.base.specs.Lists.{padded};
+// The weights, the dual variables: new ones from net costs, and those of a plan without calls.
+ghost use Rattle.std.specs.Prelude.{◌≡◌, pos, replicate};
 ghost use Rattle.book.specs.Book.{follower, weight};
 ghost use Rattle.dispatch.specs.Legs.{plan_room, leg_at};
 ghost use Rattle.dispatch.specs.Search.{at, net_of, RenewGiven, Reweighed};
@@ -26,18 +25,4 @@ pub(crate) fn zeros() -> [i64; legs::ROOM]
     ensures { result ≡ replicate plan_room (pos 0) }
 {
     [0; legs::ROOM]
-}
-
-// The weights that below a count are those of another list, and 0 from there on.
-pub(crate) fn copy(count: usize, from: &[i64]) -> [i64; legs::ROOM]
-    requires { (count ≤ plan_room) × (count ≤ length from.now) }
-    ensures { result ≡ padded plan_room count (weight from.now) (pos 0) }
-{
-    let mut list = [0; legs::ROOM];
-    let mut b = 0;
-    while b < count {
-        list[b] = from[b];
-        b += 1;
-    }
-    list
 }

@@ -1,16 +1,15 @@
--- Lists that are cleared from an index on; and a book with 0 past its counts is the same book, and so is tested alike.
+-- Arrays that are filled with 0 from an index on; and a book with 0 past its counts is the same book, and so is tested alike.
 -- Assumes nothing.
-use Prim.Native.Nat.{ℕ, ◌+◌, ◌<◌, ◌≤◌}
-use mathlib.Core.List.{List}
-use mathlib.Core.Path.{◌≡◌, refl, sym, ◌∙◌}
+use Prim.Native.Nat.{ℕ, ◌-◌, ◌≤◌}
+use borrow.Rule.Slice.PartMut.{put_mid}
+use mathlib.Core.List.{List, [], append-nil}
+use mathlib.Core.Path.{◌≡◌, refl}
 use lib.IntN.{ℤ, pos}
-use lib.ListN.{length, get_or, set, length-set}
-use lib.Seq.{get_or-set_same, get_or-set_other, ext_get_or}
-use native.Mathlib.Decide.{ℕ_discrete, dec_lt}
-use native.Mathlib.Nat.{le_refl}
+use lib.ListN.{length, get_or, take, drop, replicate, length-drop, drop_of_length-le}
+use lib.Seq.{length-take-le}
 use native.Mathlib.Omega.{arith}
 use Rattle.base.specs.Lists.{padded}
-use Rattle.base.proofs.Lists.{get_or-padded, get_or-padded_past, length-padded, take_kept}
+use Rattle.base.proofs.Lists.{take-up_to, get_or-padded, get_or-padded_past, take_kept}
 use Rattle.road.specs.Table.{Table}
 use Rattle.dayfile.specs.Day.{most_cranes, most_calls}
 use Rattle.book.specs.declared.Book.{Book}
@@ -19,41 +18,13 @@ use Rattle.dispatch.specs.Commit.{tidied}
 use Rattle.book.proofs.Ignored.{past_counts_ignored}
 use Rattle.book.proofs.Sound.{Fits}
 
--- the invariant of a loop that clears a list from an index on; i is the next
-pub record Clearing {A : Type 0} (from : ℕ) (z : A) (old now : List A) (i : ℕ) : Type 0 where
-  pub low : from ≤ i
-  pub most : i ≤ length old
-  pub long : length now ≡ length old
-  pub kept : (j : ℕ) → j < from → get_or now j z ≡ get_or old j z
-  pub cleared : (j : ℕ) → from ≤ j → j < i → get_or now j z ≡ z
-
-module _ {A : Type 0} (from : ℕ) (z : A) (old : List A) where
-  pub clear_begun : from ≤ length old → Clearing from z old old from
-  clear_begun h = record { low = le_refl from; most = h; long = refl; kept = λ j lt. refl; cleared = λ j le lt. absurd (omega arith) }
-
-  module _ {now : List A} {i : ℕ} (so : Clearing from z old now i) where
-    pub clear_turned : i < length old → Clearing from z old (set now i z) (i + 1)
-    clear_turned h = record {
-      low = omega (arith, so.low);
-      most = omega arith;
-      long = length-set now i z ∙ so.long;
-      kept = λ j lt. get_or-set_other now i j z z (λ e. omega (arith, so.low)) ∙ so.kept j lt;
-      cleared = λ j le lt. either j le lt (ℕ_discrete j i);
-    }
-      where
-        either : (j : ℕ) → from ≤ j → j < i + 1 → Dec (j ≡ i) → get_or (set now i z) j z ≡ z
-        either j le lt (yes e) = rw e (get_or-set_same now i z z (rw so.long h))
-        either j le lt (no away) = get_or-set_other now i j z z away ∙ so.cleared j le (omega arith)
-
-    pub clear_ended : length old ≤ i → now ≡ padded (length old) from (λ j. get_or old j z) z
-    clear_ended done =
-        let room : from ≤ length old = omega (arith, so) in
-        ext_get_or z now _ (so.long ∙ sym (length-padded (length old) from (λ j. get_or old j z) z room)) (λ j lt. each j lt (dec_lt j from))
-      where
-        each : (j : ℕ) → j < length now → Dec (j < from) → get_or now j z ≡ get_or (padded (length old) from (λ k. get_or old k z) z) j z
-        each j lt (yes h) = so.kept j h ∙ sym (get_or-padded (length old) from (λ k. get_or old k z) z z j h)
-        each j lt (no h) =
-            so.cleared j (omega arith) (omega (arith, so.long)) ∙ sym (get_or-padded_past (length old) from (λ k. get_or old k z) z j (omega arith))
+-- an array of m entries that is filled with z from an index on
+pub cleared : {A : Type 0} (m from : ℕ) (z : A) (old new : List A) → length old ≡ m → from ≤ m
+    → new ≡ replicate (length (take (m - from) (drop from old))) z → put_mid from (m - from) old new ≡ padded m from (λ j. get_or old j z) z
+cleared m from z old new long h e =
+    let n : length (take (m - from) (drop from old)) ≡ m - from = length-take-le (m - from) (drop from old) (simp length-drop (omega arith)) in
+    let none : drop (m - from) (drop from old) ≡ [] = drop_of_length-le (drop from old) (simp length-drop (omega arith)) in
+    rw (none, append-nil, e, n, take-up_to from old z (omega arith))
 
 -- the book of such lists
 pub tidied_by : (book : Book) {starts stands requests plan : List ℕ} {weights : List ℤ} {driven : List ℕ}

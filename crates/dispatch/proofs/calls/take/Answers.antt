@@ -6,9 +6,6 @@ use Rattle.dispatch.proofs.ends.Laws.{movable_few, movable_long}
 use Rattle.dispatch.proofs.calls.Laws.{call_taken}
 use Rattle.dispatch.proofs.calls.take.Goals as goal
 
-pub extend-requires : goal.extend-requires
-extend-requires c = (movable_few c.requires.movable, (le_trans c.requires.on c.requires.movable.legible.few, c.requires.movable.kept.table.costed))
-
 pub insert-requires : goal.insert-requires
 insert-requires c = record {
   crane = c.requires.movable.kept.asked.day.crane;

@@ -74,7 +74,7 @@ sent c =
     let weights : length c.tidy-tidy.result.weights ≡ most_stops = search rules in
     let k = tested _ _ _ _ c.tidy-tidy.ensures given c.requires.1 in
     let day = kept arrays plan weights k c.of_book.ensures in
-    let answered = c.serve_call-step.ensures.answered c.requires.0 (metres_of c.args.table.now) (sound_roads k.sound) day k.on in
+    let answered = c.serve_call-step.ensures.served.answered c.requires.0 (metres_of c.args.table.now) (sound_roads k.sound) day k.on in
     (Carried·sent arrays k.sound k.on k.space answered, driven_room arrays k.sound k.on k.space answered (tidy_driven _ c.tidy-tidy.ensures))
 
 room : (c : After-serve_call-step) (j : ℕ) → let b = c.tidy-tidy.result in Val-as-Fits w32 (get_or b.driven j 0 + c.serve_call-step.result.metres)
@@ -107,25 +107,21 @@ slice_bounds-stands-end c = (tidy_fits (goal.at.slice_bounds-stands-end c).After
 pub slice_bounds-serve_call-end-3 : goal.slice_bounds-serve_call-end-3
 slice_bounds-serve_call-end-3 c = sym (stands_long (tidy_fits (goal.at.slice_bounds-serve_call-end-3 c).After-tidy-tidy))
 
-pub slice_bounds-serve_call-end-4 : goal.slice_bounds-serve_call-end-4
-slice_bounds-serve_call-end-4 c = sym (plan_long (goal.at.slice_bounds-serve_call-end-4 c).After-tidy-tidy)
-
-pub slice_bounds-serve_call-end-5 : goal.slice_bounds-serve_call-end-5
-slice_bounds-serve_call-end-5 c = sym (weights_long (goal.at.slice_bounds-serve_call-end-5 c).After-tidy-tidy)
-
 pub serve_call-step-requires : goal.serve_call-step-requires
 serve_call-step-requires c = let k = tested_so (goal.at.serve_call-step-requires c).After-tidy-tidy in
     let at = (goal.at.serve_call-step-requires c).After-tidy-tidy in
-    let day = kept (arrays at) (plan_long at) (weights_long at) k c.of_book.ensures in
-    record {
-      places = c.requires.0;
-      metres = metres_of c.args.table.now;
-      roads = sound_roads k.sound;
-      kept = day;
-      on = k.on;
-      space = rw (requests_long (tidy_fits (goal.at.serve_call-step-requires c).After-tidy-tidy)) k.space;
-      ends = λ e h. rw (starts-long (tidy_fits (goal.at.serve_call-step-requires c).After-tidy-tidy), (same _ _ _ _ c.tidy-tidy.ensures (given at) c.requires.1).cranes) (commit_called c.requires.1).1;
-    }
+    let day = kept (arrays at) (plan_long at) (weights_long at) k c.of_book.ensures in (
+      omega arith,
+      record {
+        places = c.requires.0;
+        metres = metres_of c.args.table.now;
+        roads = sound_roads k.sound;
+        kept = day;
+        on = k.on;
+        space = rw (requests_long (tidy_fits (goal.at.serve_call-step-requires c).After-tidy-tidy)) k.space;
+        ends = λ e h. rw (starts-long (tidy_fits (goal.at.serve_call-step-requires c).After-tidy-tidy), (same _ _ _ _ c.tidy-tidy.ensures (given at) c.requires.1).cranes) (commit_called c.requires.1).1;
+      },
+    )
 
 pub offset_bounds-requests-calls : goal.offset_bounds-requests-calls
 offset_bounds-requests-calls c = omega (arith, (tested_so (goal.at.offset_bounds-requests-calls c).After-tidy-tidy).space)
@@ -153,7 +149,7 @@ returns c = λ n h.
     let at = (goal.at.returns c).After-tidy-tidy in
     let k = tested _ _ _ _ c.tidy-tidy.ensures (given at) h in
     let day = kept (arrays at) (plan_long at) (weights_long at) k c.of_book.ensures in
-    let answered = c.serve_call-step.ensures.answered n (metres_of c.args.table.now) (sound_roads k.sound) day k.on in (
+    let answered = c.serve_call-step.ensures.served.answered n (metres_of c.args.table.now) (sound_roads k.sound) day k.on in (
       committed-after (arrays at) k.sound k.on k.space answered refl c.tidy-tidy.ensures (same _ _ _ _ c.tidy-tidy.ensures (given at) h),
-      next (arrays at) k.sound k.on k.space answered c.serve_call-step.ensures.unmoved (tidy_plan _ c.tidy-tidy.ensures) (tidy_weights _ c.tidy-tidy.ensures),
+      next (arrays at) k.sound k.on k.space answered c.serve_call-step.ensures.served.unmoved (tidy_plan _ c.tidy-tidy.ensures) (tidy_weights _ c.tidy-tidy.ensures),
     )

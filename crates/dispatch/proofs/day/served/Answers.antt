@@ -86,19 +86,19 @@ slice_bounds-floor-end-2 c = sym (calls-long (given (goal.at.slice_bounds-floor-
 pub floor-floor-requires : goal.floor-floor-requires
 floor-floor-requires c = let g = given (goal.at.floor-floor-requires c).Start in
     let own = own_made _ (room g) c.own-plan.ensures c.zeros-weights.ensures in
-    let done = c.serve_all-driven.ensures _ _ (sound_roads (day_sound g)) (day_kept g c.of_book.ensures own) (day_called g) in
-    floor_given g done (omega (arith, c.serve_all-driven.auto, own.plan_long)) (omega (arith, c.serve_all-driven.auto, own.weights_long))
+    let done = c.serve_all-driven.ensures.done _ _ (sound_roads (day_sound g)) (day_kept g c.of_book.ensures own) (day_called g) in
+    floor_given g done (omega (arith, c.serve_all-driven.ensures.sized, own.plan_long)) (omega (arith, c.serve_all-driven.ensures.sized, own.weights_long))
 
 pub slice_bounds-stands-end-2 : goal.slice_bounds-stands-end-2
 slice_bounds-stands-end-2 c = let g = given (goal.at.slice_bounds-stands-end-2 c).Start in
     let own = own_made _ (room g) c.own-plan.ensures c.zeros-weights.ensures in
-    let done = c.serve_all-driven.ensures _ _ (sound_roads (day_sound g)) (day_kept g c.of_book.ensures own) (day_called g) in
+    let done = c.serve_all-driven.ensures.done _ _ (sound_roads (day_sound g)) (day_kept g c.of_book.ensures own) (day_called g) in
     last_within g done _
 
 pub slice_bounds-home-end : goal.slice_bounds-home-end
 slice_bounds-home-end c = let g = given (goal.at.slice_bounds-home-end c).Start in
     let own = own_made _ (room g) c.own-plan.ensures c.zeros-weights.ensures in
-    let done = c.serve_all-driven.ensures _ _ (sound_roads (day_sound g)) (day_kept g c.of_book.ensures own) (day_called g) in
+    let done = c.serve_all-driven.ensures.done _ _ (sound_roads (day_sound g)) (day_kept g c.of_book.ensures own) (day_called g) in
     sym (ap length (last_lent g done _) ∙ last_long g done)
 
 pub slice_bounds-starts-end-3 : goal.slice_bounds-starts-end-3
@@ -110,11 +110,11 @@ slice_bounds-home-end-2 c = sym (starts-long (day_fits (given (goal.at.slice_bou
 pub home-home-requires : goal.home-home-requires
 home-home-requires c = let g = given (goal.at.home-home-requires c).Start in
     let own = own_made _ (room g) c.own-plan.ensures c.zeros-weights.ensures in
-    let done = c.serve_all-driven.ensures _ _ (sound_roads (day_sound g)) (day_kept g c.of_book.ensures own) (day_called g) in
+    let done = c.serve_all-driven.ensures.done _ _ (sound_roads (day_sound g)) (day_kept g c.of_book.ensures own) (day_called g) in
     rw (last_lent g done _) (home_given g done c.floor-floor.ensures.1)
 
 pub returns : goal.returns
 returns c = let g = given (goal.at.returns c).Start in
     let own = own_made _ (room g) c.own-plan.ensures c.zeros-weights.ensures in
-    let done = c.serve_all-driven.ensures _ _ (sound_roads (day_sound g)) (day_kept g c.of_book.ensures own) (day_called g) in
+    let done = c.serve_all-driven.ensures.done _ _ (sound_roads (day_sound g)) (day_kept g c.of_book.ensures own) (day_called g) in
     day_figures_lem g done _ (last_lent g done _) c.home-home.ensures c.floor-floor.ensures.0

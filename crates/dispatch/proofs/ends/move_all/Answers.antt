@@ -1,46 +1,25 @@
 -- `dispatch::ends::move_all` meets its contract: after each turn the ends so far are at their places, and the others where they were.
 -- Assumes nothing.
-use mathlib.Core.Path.{refl}
-use borrow.Author.Rules.{rules}
+use Prim.Native.Nat.{◌<◌}
+use lib.ListN.{length}
 use native.Mathlib.Omega.{arith}
-use Rattle.road.specs.Table.{metres_of, entry}
-use Rattle.dispatch.proofs.ends.Laws.{Moving, moving_begun, moving_on, moving_turned, moving_ended}
+use Rattle.dispatch.proofs.ends.Laws.{moving_begun, moving_on, moving_turned, moving_ended}
 use Rattle.dispatch.proofs.ends.move_all.Goals as goal
-use Rattle.dispatch.proofs.ends.move_all.Goals.{At-loop-end}
+use Rattle.dispatch.proofs.ends.move_all.Goals.{In-loop-end}
 
--- where the ends are
-moving : (c : At-loop-end) → Moving (entry (metres_of c.args.table.now)) c.args.starts.now c.args.calls.now c.args.to.now c.loop-end.plan c.loop-end.weights c.loop-end.costs c.loop-end.end
-moving c = c.loop-end.invariant.moving c.requires
+-- the end that is next
+next : (c : In-loop-end) → c.loop-end.end < length c.args.starts.now
+next c = omega (arith, c.requires.ending.cranes, c.loop-end-test.true)
 
 pub loop-end-init : goal.loop-end-init
-loop-end-init c = record { planned = refl; weighed = refl; costed = refl; moving = moving_begun }
-
-pub offset_bounds-to-end : goal.offset_bounds-to-end
-offset_bounds-to-end c = omega (arith, c.requires.movable.kept.asked.cranes, c.loop-end-test.true)
-
-pub bounds-to-end : goal.bounds-to-end
-bounds-to-end c = omega (arith, c.requires.ending.cranes, c.loop-end-test.true)
+loop-end-init c = moving_begun c.requires
 
 pub move_end-requires : goal.move_end-requires
-move_end-requires c = let m = moving (goal.at.move_end-requires c).At-loop-end in
-    record {
-      places = m.places;
-      stands = m.stands;
-      movable = m.movable;
-      end = c.loop-end-test.true;
-      on = moving_on m c.loop-end-test.true;
-    }
-
-pub overflow_add-end : goal.overflow_add-end
-overflow_add-end c = omega (arith, c.requires.movable.kept.asked.cranes, c.loop-end-test.true)
+move_end-requires c = let m = c.loop-end.invariant in let lt = next (goal.at.move_end-requires c).In-loop-end in
+    record { places = m.places; stands = m.stands; movable = m.movable; end = lt; on = moving_on m lt }
 
 pub loop-end-preserved : goal.loop-end-preserved
-loop-end-preserved c = record {
-  planned = search rules;
-  weighed = search rules;
-  costed = search rules;
-  moving = λ given. moving_turned (c.loop-end.invariant.moving given) c.loop-end-test.true c.move_end.ensures;
-}
+loop-end-preserved c = moving_turned c.loop-end.invariant (next (goal.at.loop-end-preserved c).In-loop-end) c.move_end.ensures
 
 pub returns : goal.returns
-returns c = moving_ended (moving (goal.at.returns c).At-loop-end) c.loop-end-test.false
+returns c = moving_ended c.loop-end.invariant (omega (arith, c.requires.ending.cranes, c.loop-end-test.false))

@@ -1,7 +1,6 @@
 -- `dispatch::ends::move_end` meets its contract: the call by which the end is moved has room, is taken in for the end, and goes again.
 -- Assumes nothing.
 use Prim.Native.Nat.{◌<◌}
-use borrow.Author.Rules.{rules}
 use native.Mathlib.Nat.{le_trans}
 use native.Mathlib.Omega.{arith}
 use Rattle.road.specs.Table.{most_places}
@@ -25,9 +24,6 @@ end_low c = le_trans c.requires.end c.requires.movable.kept.asked.cranes
 on_road : (c : Start) → c.args.place < most_places
 on_road c = le_trans c.requires.on c.requires.movable.legible.few
 
-pub extend-requires : goal.extend-requires
-extend-requires c = (few (goal.at.extend-requires c).Start, (on_road (goal.at.extend-requires c).Start, c.requires.movable.kept.table.costed))
-
 pub insert-requires : goal.insert-requires
 insert-requires c = record {
   crane = c.requires.movable.kept.asked.day.crane;
@@ -39,27 +35,6 @@ insert-requires c = record {
   costed = c.extend.ensures.costed;
   witnessed = kept_witnessed c.requires.movable.legible c.requires.movable.kept (few (goal.at.insert-requires c).Start) (movable_long c.requires.movable) c.requires.on c.extend.ensures;
 }
-
-pub overflow_cast-stops : goal.overflow_cast-stops
-overflow_cast-stops c = let room = few (goal.at.overflow_cast-stops c).Start in omega arith
-
-pub overflow_cast-end : goal.overflow_cast-end
-overflow_cast-end c = let low = end_low (goal.at.overflow_cast-end c).Start in omega arith
-
-pub replace-requires : goal.replace-requires
-replace-requires c = let room = few (goal.at.replace-requires c).Start in
-    search rules
-
-pub offset_bounds-weights-end : goal.offset_bounds-weights-end
-offset_bounds-weights-end c = let low = end_low (goal.at.offset_bounds-weights-end c).Start in search rules
-
-pub slice_set_of-weights : goal.slice_set_of-weights
-slice_set_of-weights c = let low = end_low (goal.at.slice_set_of-weights c).Start in
-    search rules
-
-pub put-requires : goal.put-requires
-put-requires c = let low = end_low (goal.at.put-requires c).Start in
-    (omega arith, (on_road (goal.at.put-requires c).Start, c.extend.ensures.costed))
 
 pub returns : goal.returns
 returns c = record {

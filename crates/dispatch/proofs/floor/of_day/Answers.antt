@@ -30,7 +30,7 @@ own c =
 
 -- the plan with all calls
 taken : (c : After-take_all) → Movable c.requires.places (entry (metres_of c.args.table.now)) c.args.starts.now c.args.requests.now c.args.starts.now
-    c.take_all.new.plan c.take_all.new.weights c.take_all.new.costs
+    c.take_all.new.matching.plan c.take_all.new.matching.weights c.take_all.new.matching.costs
 taken c =
     let called_here : (i : ℕ) → i < length c.args.requests.now → get_or c.args.requests.now i 0 < c.requires.places = λ i h. c.requires.asked.day.called (entry_in _ i h)
     in
@@ -40,9 +40,6 @@ taken c =
     c.own-plan.result c.zeros-weights.result c.fill.new.costs = own_movable _ _ c.requires.legible (uncalled_here) c.own-plan.ensures c.zeros-weights.ensures c.fill.ensures
     in
     c.take_all.ensures.there c.requires.places c.args.starts.now (own_here) (called_here)
-
-pub own-plan-requires : goal.own-plan-requires
-own-plan-requires c = omega (arith, c.requires.asked.cranes)
 
 pub fill-requires : goal.fill-requires
 fill-requires c = record {

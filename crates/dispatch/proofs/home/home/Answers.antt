@@ -7,9 +7,6 @@ use Rattle.workfunction.proofs.Sums.{entry_in}
 use Rattle.dispatch.proofs.ends.Laws.{own_movable}
 use Rattle.dispatch.proofs.home.home.Goals as goal
 
-pub own-plan-requires : goal.own-plan-requires
-own-plan-requires c = omega (arith, c.requires.asked.cranes)
-
 pub fill-requires : goal.fill-requires
 fill-requires c = record {
   aligned = refl;

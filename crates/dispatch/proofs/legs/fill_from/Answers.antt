@@ -9,9 +9,6 @@ use Rattle.dispatch.proofs.legs.fill_from.Goals as goal
 pub loop-p-init : goal.loop-p-init
 loop-p-init c = fill_begun _ _ _
 
-pub overflow_cast-places : goal.overflow_cast-places
-overflow_cast-places c = omega (arith, c.shared_slice_known-in-loop-p-1.given c.loop-p.p)
-
 pub loop-p-preserved : goal.loop-p-preserved
 loop-p-preserved c = fill_turned _ _ _ _ _ _ (omega arith) c.loop-p.invariant (omega arith) c.metres.ensures
 

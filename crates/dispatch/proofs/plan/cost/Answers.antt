@@ -1,39 +1,41 @@
--- `dispatch::plan::cost` meets its contract: the loop sums the legs from the stops below p, each of which is a u32.
+-- `dispatch::plan::cost` meets its contract: the sum of the legs from the stops, each of which is a u32.
 -- Assumes nothing.
-use Prim.Native.Nat.{ℕ, ◌+◌, ◌<◌, ◌≤◌, zero-le}
-use mathlib.Core.Path.{◌≡◌, refl, subst}
-use native.Mathlib.Nat.{le_antisymm}
+use Prim.Native.Nat.{ℕ, zero, suc, ◌+◌}
+use mathlib.Core.List.{map}
+use mathlib.Core.Path.{◌≡◌, refl, sym, ap, ◌∙◌}
+use borrow.Author.Rules.{rules}
+use borrow.Author.Tests.{tests}
+use native.Mathlib.Nat.{zero-add, sub-zero}
+use native.Mathlib.Numerals.{add-one}
 use native.Mathlib.Omega.{arith}
+use Rattle.std.specs.List.{range_with_len, sum}
+use Rattle.std.proofs.lemmas.Iterator.{YieldsList-from_range, YieldsList-from_map}
+use Rattle.std.proofs.lemmas.Iterator.Adapters.{fits_from_length, at_most_from_yields_List}
+use Rattle.std.proofs.lemmas.Iterator.Consumers.{sum_from_yields_List}
+use Rattle.std.proofs.lemmas.List.FromFn.{length-range_with_len, sum_by-map-range_with_len_more}
 use Rattle.workfunction.specs.Lists.{sum_below}
 use Rattle.workfunction.specs.Plan.{plan_cost}
-use Rattle.workfunction.proofs.Sums.{sum_last}
-use Rattle.dispatch.proofs.plan.cost.Invariants.{Summed}
+use Rattle.book.specs.Book.{follower}
+use Rattle.dispatch.specs.Legs.{leg_at}
 use Rattle.dispatch.proofs.plan.cost.Goals as goal
 
-module _ (n : ℕ) (leg : ℕ → ℕ) where
-  sum_begun : Summed n leg 0 0
-  unfolding sum_below
-  sum_begun = record { most = zero-le; low = zero-le; summed = refl }
+-- the sum over a range is that below its end
+summed : (f : ℕ → ℕ) (n : ℕ) → sum (map f (range_with_len 0 n)) ≡ sum_below n f
+unfolding sum_below
+summed f zero = refl
+summed f (suc n) =
+    ap (λ (k : ℕ). sum (map f (range_with_len 0 k))) (sym (add-one n)) ∙ sum_by-map-range_with_len_more (λ x. x) f 0 n n (zero-add n)
+    ∙ ap (λ (s : ℕ). s + f n) (summed f n)
 
-  sum_turned : (sum p a : ℕ) → Summed n leg sum p → p < n → a ≡ leg p → a ≤ 4294967295 → Summed n leg (sum + a) (p + 1)
-  sum_turned sum p a s lt e low =
-      record { most = omega arith; low = omega (arith, s); summed = rw (sum_last p leg, ← s.summed, ← e) refl }
-
-  sum_ended : (sum p : ℕ) → Summed n leg sum p → n ≤ p → sum ≡ sum_below n leg
-  sum_ended sum p s le = subst (λ (k : ℕ). sum ≡ sum_below k leg) (le_antisymm s.most le) s.summed
-
-pub loop-p-init : goal.loop-p-init
-loop-p-init c = sum_begun _ _
-
-pub overflow_cast-plan : goal.overflow_cast-plan
-overflow_cast-plan c = omega (arith, c.shared_slice_known-in-loop-p-1.given c.loop-p.p)
-
-pub cost-requires : goal.cost-requires
-cost-requires c = (omega (arith, c.requires.few), (omega (arith, c.requires.few, c.requires.below _ c.loop-p-test.true), c.requires.costed))
-
-pub loop-p-preserved : goal.loop-p-preserved
-loop-p-preserved c = sum_turned _ _ _ _ _ c.loop-p.invariant c.loop-p-test.true c.cost.ensures (omega arith)
+pub sum-requires-clause-fits : goal.sum-requires-clause-fits
+sum-requires-clause-fits c =
+    fits_from_length _ _ 273 _ (at_most_from_yields_List (YieldsList-from_range 0 c.args.stops c.args.stops c.map.ensures.source (sub-zero _))
+    (rw length-range_with_len c.requires.few)) c.map.ensures.closure (omega arith) (λ x r q k. search (rules, tests))
 
 pub returns : goal.returns
 unfolding plan_cost
-returns c = sum_ended _ _ _ _ c.loop-p.invariant c.loop-p-test.false
+returns c =
+    let leg : ℕ → ℕ = λ p. leg_at c.args.costs.now p (follower c.args.plan.now p) in
+    sum_from_yields_List c.map.result _ c.sum.ensures.ran
+    (YieldsList-from_map _ leg (YieldsList-from_range 0 c.args.stops c.args.stops c.map.ensures.source (sub-zero _)) c.map.ensures.closure (λ x r q k. search rules))
+    ∙ summed leg c.args.stops

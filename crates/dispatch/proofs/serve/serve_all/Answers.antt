@@ -1,95 +1,39 @@
 -- `dispatch::serve::serve_all` meets its contract: after each turn the calls so far are served, and the rest of the day is ahead.
 -- Assumes nothing.
-use Prim.Native.Nat.{◌<◌}
-use mathlib.Core.Path.{refl, sym}
+use mathlib.Core.Path.{refl}
 use borrow.Author.Rules.{rules}
-use lib.ListN.{get_or, take}
 use lib.Seq.{length-take-le}
 use native.Mathlib.Omega.{arith}
-use Rattle.dayfile.specs.Day.{most_calls}
-use Rattle.dispatch.specs.Insertion.{Kept}
-use Rattle.dispatch.proofs.DayServed.{run_begun, run_turned, run_ended, crane_few}
+use Rattle.dispatch.proofs.DayServed.{run_begun, run_turned, run_ended}
 use Rattle.dispatch.proofs.serve.serve_all.Goals as goal
 use Rattle.dispatch.proofs.serve.serve_all.Goals.{At-loop-i, In-loop-i}
 
--- the call that is next is within the limit, and at a place of the table
-few : (c : In-loop-i) → c.loop-i.i < most_calls
-few c = omega (arith, c.loop-i-test.true, c.requires.few)
-
-asked : (c : In-loop-i) → get_or c.args.requests.now c.loop-i.i 0 < c.requires.places
-asked c = c.requires.called _ c.loop-i-test.true
-
--- the day is under way
-kept : (c : At-loop-i) → Kept c.requires.places c.requires.between c.args.starts.now (take c.loop-i.i c.args.requests.now)
-    c.loop-i.stands c.loop-i.plan c.loop-i.weights c.loop-i.costs
-kept c = (c.loop-i.invariant.running _ _ c.requires.roads c.requires.kept c.requires.called).kept
-
 pub loop-i-init : goal.loop-i-init
-loop-i-init c = record {
-  most = search rules;
-  stood = refl;
-  planned = refl;
-  weighed = refl;
-  costed = refl;
-  sent = refl;
-  drives = refl;
-  works = refl;
-  low = search rules;
-  running = λ n d ways begun called. run_begun _ _ _ _ _ _ _ _ begun;
-}
-
-pub slice_bounds-serve_call-end : goal.slice_bounds-serve_call-end
-slice_bounds-serve_call-end c = sym (length-take-le _ _ c.loop-i.invariant.most)
+loop-i-init c = record { low = search rules; sized = (refl, refl); running = λ n d ways begun called. run_begun _ _ _ _ _ _ _ _ begun }
 
 pub serve_call-step-requires : goal.serve_call-step-requires
-serve_call-step-requires c = record {
-  places = _;
-  metres = _;
-  roads = c.requires.roads;
-  kept = kept (goal.at.serve_call-step-requires c).At-loop-i;
-  on = asked (goal.at.serve_call-step-requires c).In-loop-i;
-  space = rw (length-take-le _ _ c.loop-i.invariant.most) (few (goal.at.serve_call-step-requires c).In-loop-i);
-  ends = λ e h. h;
-}
-
-pub overflow_cast-cranes : goal.overflow_cast-cranes
-overflow_cast-cranes c = let day = kept (goal.at.overflow_cast-cranes c).At-loop-i in
-    omega (arith, crane_few day (c.serve_call-step.ensures.answered _ _ c.requires.roads day (asked (goal.at.overflow_cast-cranes c).In-loop-i)))
-
-pub bounds-cranes-i : goal.bounds-cranes-i
-bounds-cranes-i c = omega (arith, (goal.at.bounds-cranes-i c).In-loop-i, c.requires.sent)
-
-pub bounds-metres-i : goal.bounds-metres-i
-bounds-metres-i c = omega (arith, (goal.at.bounds-metres-i c).In-loop-i, c.requires.driven)
-
-pub offset_bounds-leasts-i : goal.offset_bounds-leasts-i
-offset_bounds-leasts-i c = omega (arith, few (goal.at.offset_bounds-leasts-i c).In-loop-i)
-
-pub bounds-leasts-i : goal.bounds-leasts-i
-bounds-leasts-i c = omega (arith, (goal.at.bounds-leasts-i c).In-loop-i, c.requires.costed)
-
-pub overflow_add-driven : goal.overflow_add-driven
-overflow_add-driven c = omega (arith, few (goal.at.overflow_add-driven c).In-loop-i, c.loop-i.invariant.low)
-
-pub overflow_add-i : goal.overflow_add-i
-overflow_add-i c = omega (arith, few (goal.at.overflow_add-i c).In-loop-i)
+serve_call-step-requires c = (
+  omega arith,
+  record {
+    places = _;
+    metres = _;
+    roads = c.requires.roads;
+    kept = (c.loop-i.invariant.running _ _ c.requires.roads c.requires.kept c.requires.called).kept;
+    on = c.requires.called _ c.loop-i-test.true;
+    space = omega (arith, length-take-le c.loop-i.i c.args.requests.now (omega arith), c.requires.few);
+    ends = λ e h. h;
+  },
+)
 
 pub loop-i-preserved : goal.loop-i-preserved
 loop-i-preserved c = record {
-  most = search rules;
-  stood = search rules;
-  planned = search rules;
-  weighed = search rules;
-  costed = search rules;
-  sent = search rules;
-  drives = search rules;
-  works = search rules;
   low = omega (arith, c.loop-i.invariant.low);
+  sized = (omega arith, omega arith);
   running = λ n d ways begun called.
       let run = c.loop-i.invariant.running n d ways begun called in
       run_turned _ _ _ _ _ _ _ _ run c.loop-i-test.true c.requires.sent c.requires.driven c.requires.costed
-      (c.serve_call-step.ensures.answered n d ways run.kept (called c.loop-i.i c.loop-i-test.true));
+      (c.serve_call-step.ensures.served.answered n d ways run.kept (called c.loop-i.i c.loop-i-test.true));
 }
 
-pub returns : goal.returns
-returns c = λ n d ways begun called. run_ended _ _ _ _ _ _ _ _ (c.loop-i.invariant.running n d ways begun called) c.loop-i-test.false
+pub returns-clause-done : goal.returns-clause-done
+returns-clause-done c = λ n d ways begun called. run_ended _ _ _ _ _ _ _ _ (c.loop-i.invariant.running n d ways begun called) c.loop-i-test.false

@@ -11,94 +11,63 @@ use Rattle.workfunction.specs.Plan.{stops}
 use Rattle.book.specs.Book.{most_stops}
 use Rattle.dispatch.proofs.Answered.{kept_few, call_answered, unmoved_set}
 use Rattle.dispatch.proofs.Taken.{kept_witnessed, served_below}
+use Rattle.dispatch.proofs.serve.serve_call.Given.{Over}
 use Rattle.dispatch.proofs.serve.serve_call.Goals as goal
 use Rattle.dispatch.proofs.serve.serve_call.Goals.{After-insert-crane, Start}
 
 -- there is room for the call
-room : (c : Start) → stops c.args.starts.now c.args.calls.now < most_stops
+room : {g : Over} (c : Start g) → stops c.args.starts.now c.args.calls.now < most_stops
 room c = kept_few c.requires.kept c.requires.space
 
-long : (c : Start) → stops c.args.starts.now c.args.calls.now < length c.args.plan.now
+long : {g : Over} (c : Start g) → stops c.args.starts.now c.args.calls.now < length c.args.matching.now.plan
 long c = le_trans (room c) c.requires.kept.plan_long
 
 -- the call is at a place that has a row
-on_road : (c : Start) → c.args.place < most_places
+on_road : {g : Over} (c : Start g) → c.args.place < most_places
 on_road c = le_trans c.requires.on c.requires.roads.legible.few
 
 -- the crane sent is one of the cranes
-sent : (c : After-insert-crane) → c.insert-crane.result < length c.args.starts.now
+sent : {g : Over} (c : After-insert-crane g) → c.insert-crane.result < length c.args.starts.now
 sent c = c.insert-crane.ensures.taken.end
 
-sent_stands : (c : After-insert-crane) → c.insert-crane.result < length c.args.stands.now
+sent_stands : {g : Over} (c : After-insert-crane g) → c.insert-crane.result < length c.args.stands.now
 sent_stands c = omega (arith, sent c, c.requires.kept.standing.cranes)
 
-sent_low : (c : After-insert-crane) → c.insert-crane.result < most_cranes
+sent_low : {g : Over} (c : After-insert-crane g) → c.insert-crane.result < most_cranes
 sent_low c = le_trans (sent c) c.requires.kept.asked.cranes
 
 pub extend-requires : goal.extend-requires
-extend-requires c = (omega (arith, room (goal.at.extend-requires c).Start), (on_road (goal.at.extend-requires c).Start, c.requires.kept.table.costed))
+extend-requires g c = (omega (arith, room (goal.at.extend-requires g c).Start), (on_road (goal.at.extend-requires g c).Start, c.requires.kept.table.costed))
 
 pub insert-crane-requires : goal.insert-crane-requires
-insert-crane-requires c = let few = room (goal.at.insert-crane-requires c).Start in
+insert-crane-requires g c = let few = room (goal.at.insert-crane-requires g c).Start in
     record {
       crane = c.requires.kept.asked.day.crane;
       cranes = c.requires.kept.asked.cranes;
       stops = omega arith;
       ends = c.requires.ends;
-      plan_long = long (goal.at.insert-crane-requires c).Start;
+      plan_long = long (goal.at.insert-crane-requires g c).Start;
       weights_long = le_trans few c.requires.kept.weights_long;
       costed = c.extend.ensures.costed;
-      witnessed = kept_witnessed c.requires.roads.legible c.requires.kept (omega arith) (long (goal.at.insert-crane-requires c).Start) c.requires.on c.extend.ensures;
+      witnessed = kept_witnessed c.requires.roads.legible c.requires.kept (omega arith) (long (goal.at.insert-crane-requires g c).Start) c.requires.on c.extend.ensures;
     }
 
-pub offset_bounds-stands-crane : goal.offset_bounds-stands-crane
-offset_bounds-stands-crane c = let low = sent_low (goal.at.offset_bounds-stands-crane c).After-insert-crane in search rules
-
-pub bounds-stands-crane : goal.bounds-stands-crane
-bounds-stands-crane c = sent_stands (goal.at.bounds-stands-crane c).After-insert-crane
-
-pub overflow_cast-stands : goal.overflow_cast-stands
-overflow_cast-stands c = omega (arith, c.slice_known-6-1.given c.insert-crane.result)
-
-pub offset_bounds-stands-crane-2 : goal.offset_bounds-stands-crane-2
-offset_bounds-stands-crane-2 c = let low = sent_low (goal.at.offset_bounds-stands-crane-2 c).After-insert-crane in search rules
-
-pub bounds-stands-crane-2 : goal.bounds-stands-crane-2
-bounds-stands-crane-2 c = sent_stands (goal.at.bounds-stands-crane-2 c).After-insert-crane
-
-pub offset_bounds-weights-crane : goal.offset_bounds-weights-crane
-offset_bounds-weights-crane c = let few = room (goal.at.offset_bounds-weights-crane c).Start in
-    let low = sent_low (goal.at.offset_bounds-weights-crane c).After-insert-crane in
-    search rules
-
-pub slice_set_of-weights : goal.slice_set_of-weights
-slice_set_of-weights c = let few = room (goal.at.slice_set_of-weights c).Start in
-    let low = sent_low (goal.at.slice_set_of-weights c).After-insert-crane in
-    search rules
-
-pub put-requires : goal.put-requires
-put-requires c = (omega (arith, sent_low (goal.at.put-requires c).After-insert-crane), (on_road (goal.at.put-requires c).Start, c.extend.ensures.costed))
-
-pub overflow_add-new-2 : goal.overflow_add-new-2
-overflow_add-new-2 c = let few = room (goal.at.overflow_add-new-2 c).Start in
-    search rules
-
 pub cost-requires : goal.cost-requires
-cost-requires c = let few = room (goal.at.cost-requires c).Start in
+cost-requires g c = let few = room (goal.at.cost-requires g c).Start in
     record {
       few = omega arith;
       planned = search rules;
       costed = c.put.ensures.costed;
-      below = served_below c.requires.roads.legible c.requires.kept (omega arith) (long (goal.at.cost-requires c).Start) c.requires.on c.extend.ensures c.insert-crane.ensures.taken;
+      below = served_below c.requires.roads.legible c.requires.kept (omega arith) (long (goal.at.cost-requires g c).Start) c.requires.on c.extend.ensures c.insert-crane.ensures.taken;
     }
 
-pub returns : goal.returns
-returns c = record {
+pub returns-clause-served : goal.returns-clause-served
+returns-clause-served g c = record {
   answered = λ n d roads kept asked.
-      call_answered roads kept (room (goal.at.returns c).Start) (long (goal.at.returns c).Start) asked c.extend.ensures
+      call_answered roads kept (room (goal.at.returns-clause-served g c).Start) (long (goal.at.returns-clause-served g c).Start) asked c.extend.ensures
       c.insert-crane.new.plan c.insert-crane.new.weights c.put.new.costs
       c.insert-crane.ensures.taken c.put.ensures
       (omega (arith, c.insert-crane.auto, c.requires.kept.plan_long)) (omega (arith, c.insert-crane.auto, c.requires.kept.weights_long))
       c.requires.space c.insert-crane.ensures.chosen c.metres-metres.ensures c.cost.ensures;
-  unmoved = unmoved_set c.insert-crane.result (omega (arith, sent (goal.at.returns c).After-insert-crane)) c.insert-crane.ensures.unmoved;
+  unmoved = unmoved_set c.insert-crane.result (omega (arith, sent (goal.at.returns-clause-served g c).After-insert-crane)) c.insert-crane.ensures.unmoved;
 }
