@@ -20,14 +20,12 @@ pub(crate) fn fill_nets(
     requires { NetsGiven cranes new plan.now costs.now totals.now nets.old before.old }
     ensures { Freed cranes new (follower plan.now) (net_of (follower plan.now) (leg_at costs.now) (at totals.now)) (at before.new) (at nets.new) }
 {
-    let mut p = 0;
-    while p < new {
+    for p in 0..new {
         let b = plan[p] as usize;
         if b < cranes {
             nets[b] = totals[p] - legs::cost(costs, p, b) as u64;
             before[b] = p;
         }
-        p += 1;
     }
 }
 
@@ -50,8 +48,7 @@ pub(crate) fn choose(cranes: usize, new: usize, nets: &[u64], costs: &[u32]) -> 
     let mut best = 0;
     let mut shortest = legs::cost(costs, new, 0);
     let mut least = nets[0] + shortest as u64;
-    let mut e = 1;
-    while e < cranes {
+    for e in 1..cranes {
         let way = legs::cost(costs, new, e);
         let sum = nets[e] + way as u64;
         if better(sum, way, least, shortest) {
@@ -59,7 +56,6 @@ pub(crate) fn choose(cranes: usize, new: usize, nets: &[u64], costs: &[u32]) -> 
             shortest = way;
             least = sum;
         }
-        e += 1;
     }
     best
 }

@@ -1,5 +1,5 @@
 // The search for net costs: Dijkstra's, by the weights, from the new call. It reads leg costs and knows no places.
-ghost use Rattle.std.specs.Prelude.{true, ◌≡◌, ℕ, ◌+◌, ◌-◌, ◌<◌, ◌≤◌, pos, ◌-ℤ◌, length};
+ghost use Rattle.std.specs.Prelude.{true, ◌≡◌, ℕ, ◌+◌, ◌-◌, ◌<◌, ◌≤◌, pos, ◌-ℤ◌, length, MatchOption};
 ghost use Rattle.road.specs.Table.{most_metres};
 ghost use Rattle.book.specs.Book.{follower, weight, weight_rule};
 ghost use Rattle.dispatch.specs.Legs.{leg_at};
@@ -16,9 +16,6 @@ const LIFT: i64 = 1_099_512_676_352;
 // The rank of a stop that is not settled.
 const OPEN: usize = legs::ROOM;
 
-// Above every key.
-const FAR: u64 = 9_223_372_036_854_775_808;
-
 // The head of a stop: the weight of its follower, raised, less the leg to it.
 fn head(y: i64, leg: u32) -> u64
     requires { (weight_rule y ≡ true) × (leg ≤ most_metres) }
@@ -32,11 +29,9 @@ fn fill_heads(new: usize, plan: &[u16], weights: &[i64], costs: &[u32], heads: &
     requires { HeadsGiven new plan.now weights.now costs.now heads.old }
     ensures { (p : ℕ) → p < new → at heads.new p ≡ head_of (weight weights.now (follower plan.now p)) (leg_at costs.now p (follower plan.now p)) }
 {
-    let mut p = 0;
-    while p < new {
+    for p in 0..new {
         let b = plan[p] as usize;
         heads[p] = head(weights[b], legs::cost(costs, p, b));
-        p += 1;
     }
 }
 
@@ -45,34 +40,23 @@ fn begin(new: usize, costs: &[u32], totals: &mut [u64], parents: &mut [usize], r
     requires { BeginGiven new costs.now totals.old parents.old ranks.old }
     ensures { Begun new (λ p. leg_at costs.now p new) (at totals.new) (at parents.new) (at ranks.new) }
 {
-    let mut p = 0;
-    while p <= new {
+    for p in 0..new + 1 {
         totals[p] = BASE + legs::cost(costs, p, new) as u64;
         parents[p] = new;
         ranks[p] = OPEN;
-        p += 1;
     }
     ranks[new] = 0;
 }
 
-// Where in a list of open stops one of least key stands.
-fn pick(stops: &[u16], heads: &[u64], totals: &[u64]) -> usize
-    requires { (0 < length stops.now) × Keyed stops.now heads.now totals.now }
-    ensures { Nearest (length stops.now) (at stops.now) (at heads.now) (at totals.now) result }
+// Where in a list of open stops the first one of least key stands.
+fn pick(stops: &[u16], heads: &[u64], totals: &[u64]) -> Option<usize>
+    requires { Keyed stops.now heads.now totals.now }
+    ensures { MatchOption result (length stops.now ≡ 0) (λ i. Nearest (length stops.now) (at stops.now) (at heads.now) (at totals.now) i) }
 {
-    let mut best = 0;
-    let mut least = FAR;
-    let mut i = 0;
-    while i < stops.len() {
-        let p = stops[i] as usize;
-        let key = totals[p] + heads[p];
-        if key < least {
-            best = i;
-            least = key;
-        }
-        i += 1;
-    }
-    best
+    (0..stops.len()).min_by_key(|i| {
+        let p = stops[*i] as usize;
+        totals[p] + heads[p]
+    })
 }
 
 // One row of work: each stop of the row takes the way over the stop `from`, of net cost `net`, where that is cheaper.
@@ -80,14 +64,12 @@ fn relax(row: &[u32], net: u64, from: usize, totals: &mut [u64], parents: &mut [
     requires { (length row.now ≤ length totals.old) × ((length row.now ≤ length parents.old) × (net ≤ 4398046511104)) }
     ensures { Relaxed (length row.now) net from (at row.now) (at totals.old) (at parents.old) (at totals.new) (at parents.new) }
 {
-    let mut p = 0;
-    while p < row.len() {
-        let total = net + row[p] as u64;
+    for (p, leg) in row.iter().enumerate() {
+        let total = net + *leg as u64;
         if total < totals[p] {
             totals[p] = total;
             parents[p] = from;
         }
-        p += 1;
     }
 }
 
@@ -135,15 +117,15 @@ fn rounds(
     requires { RoundsGiven cranes new plan.now heads.now costs.now stops.old totals.old parents.old ranks.old }
     ensures { Searched cranes new (follower plan.now) (leg_at costs.now) (at totals.new) (at parents.new) (at ranks.new) }
 {
-    let mut rank = 1;
-    while rank <= new {
+    for rank in 1..=new {
         let left = new - rank;
-        let i = pick(&stops[..left + 1], heads, totals);
+        let Some(i) = pick(&stops[..=left], heads, totals) else {
+            return;
+        };
         let q = stops[i] as usize;
         stops[i] = stops[left];
         ranks[q] = rank;
         settle(cranes, new, plan, costs, q, totals, parents);
-        rank += 1;
     }
 }
 

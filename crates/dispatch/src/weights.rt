@@ -12,12 +12,10 @@ pub(crate) fn renew(new: usize, plan: &[u16], totals: &[u64], costs: &[u32], wei
     requires { RenewGiven new plan.now totals.now costs.now weights.old }
     ensures { Reweighed new (follower plan.now) (net_of (follower plan.now) (leg_at costs.now) (at totals.now)) (weight weights.old) (weight weights.new) }
 {
-    let mut p = 0;
-    while p <= new {
+    for p in 0..=new {
         let b = plan[p] as usize;
         let net = search::net_cost(totals[p], legs::cost(costs, p, b));
         weights[b] = -net;
-        p += 1;
     }
 }
 
@@ -34,10 +32,6 @@ pub(crate) fn copy(count: usize, from: &[i64]) -> [i64; legs::ROOM]
     ensures { result ≡ padded plan_room count (weight from.now) (pos 0) }
 {
     let mut list = [0; legs::ROOM];
-    let mut b = 0;
-    while b < count {
-        list[b] = from[b];
-        b += 1;
-    }
+    list[..count].copy_from_slice(&from[..count]);
     list
 }

@@ -105,6 +105,3 @@ module _ (net way : ℕ → ℕ) (k : ℕ) where
 
 abbrev pub invariant-loop-e : goal.invariant-loop-e
 invariant-loop-e l = Choosing (at l.nets) (leg_at l.costs l.new) l.cranes l.best l.shortest l.least l.e
-
-abbrev pub decreases-loop-e : goal.decreases-loop-e
-decreases-loop-e l = l.cranes - l.e

@@ -80,6 +80,3 @@ module _ (k N : ℕ) (f net : ℕ → ℕ) (nets₀ before₀ : List ℕ) where
 
 abbrev pub invariant-loop-p : goal.invariant-loop-p
 invariant-loop-p l = Freeing l.cranes l.new (follower l.plan) (net_of (follower l.plan) (leg_at l.costs) (at l.totals)) l.initial.nets l.initial.before l.nets l.before l.p
-
-abbrev pub decreases-loop-p : goal.decreases-loop-p
-decreases-loop-p l = l.new - l.p

@@ -15,6 +15,3 @@ pub record Beginning (new : ℕ) (row : ℕ → ℕ) (totals₀ parents₀ ranks
 
 abbrev pub invariant-loop-p : goal.invariant-loop-p
 invariant-loop-p l = Beginning l.new (λ v. leg_at l.costs v l.new) l.initial.totals l.initial.parents l.initial.ranks l.totals l.parents l.ranks l.p
-
-abbrev pub decreases-loop-p : goal.decreases-loop-p
-decreases-loop-p l = l.new + 1 - l.p

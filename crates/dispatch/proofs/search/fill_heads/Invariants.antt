@@ -14,6 +14,3 @@ rule plan weights costs p = head_of (weight weights (follower plan p)) (leg_at c
 
 abbrev pub invariant-loop-p : goal.invariant-loop-p
 invariant-loop-p l = Filled (rule l.plan l.weights l.costs) l.initial.heads l.new l.heads l.p
-
-abbrev pub decreases-loop-p : goal.decreases-loop-p
-decreases-loop-p l = l.new - l.p

@@ -7,12 +7,6 @@ use Rattle.dispatch.proofs.search.relax.Goals.{else-total-totals, then-total-tot
 pub loop-p-init : goal.loop-p-init
 loop-p-init c = relax_begun _ _ _ _ _
 
-pub overflow_cast-total : goal.overflow_cast-total
-overflow_cast-total c = omega (arith, c.shared_slice_known-1.given c.loop-p.p)
-
-pub overflow_add-total : goal.overflow_add-total
-overflow_add-total c = omega (arith, c.shared_slice_known-1.given c.loop-p.p)
-
 pub loop-p-preserved : goal.loop-p-preserved
 loop-p-preserved c = elim c.if-total-totals.branch [ then-total-totals w ↦ rw (w.totals-is, w.parents-is) (relax_taken _ _ _ _ _ c.loop-p.invariant c.loop-p-test.true c.requires.0 c.requires.1.0 w.if-total-totals.true) | else-total-totals w ↦ rw (w.totals-is, w.parents-is) (relax_kept _ _ _ _ _ c.loop-p.invariant c.loop-p-test.true w.if-total-totals.false) ]
 

@@ -84,6 +84,3 @@ module _ (row : List ℕ) (net from : ℕ) (totals₀ parents₀ : List ℕ) whe
 
 abbrev pub invariant-loop-p : goal.invariant-loop-p
 invariant-loop-p l = Relaxing l.row l.net l.from l.initial.totals l.initial.parents l.totals l.parents l.p
-
-abbrev pub decreases-loop-p : goal.decreases-loop-p
-decreases-loop-p l = length l.row - l.p

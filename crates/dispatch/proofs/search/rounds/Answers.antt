@@ -7,10 +7,13 @@ use borrow.Author.Rules.{rules}
 use lib.ListN.{length, set, take}
 use lib.Seq.{length-take-le, get_or-take, get_or-set_same, get_or-set_other}
 use native.Mathlib.Omega.{arith}
-use Rattle.dispatch.specs.Search.{at, Keyed, Nearest}
+use Rattle.book.specs.Book.{follower}
+use Rattle.dispatch.specs.Legs.{leg_at}
+use Rattle.dispatch.specs.Search.{at, Keyed, Nearest, Ready, Searched}
 use Rattle.dispatch.proofs.search.Laws.{Stored, Least, listed_begun, listed_least, listed_turned, search_begun, search_turned, search_ended, leg-within, keys_low}
+use Rattle.dispatch.proofs.search.rounds.Invariants.{Rounding}
 use Rattle.dispatch.proofs.search.rounds.Goals as goal
-use Rattle.dispatch.proofs.search.rounds.Goals.{After-pick-i}
+use Rattle.dispatch.proofs.search.rounds.Goals.{After-settle, In-Some}
 
 set_stored : (l : List ℕ) (i x : ℕ) → i < length l → Stored i x (at l) (at (set l i x))
 set_stored l i x lt = record { here = get_or-set_same l i x 0 lt; others = λ j ne. get_or-set_other l i j x 0 ne }
@@ -41,69 +44,56 @@ module _ (stops heads totals : List ℕ) (n left : ℕ) (all : n ≡ left) (fits
       }
 
 -- where the stop that is picked stands
-near : (c : After-pick-i) → Nearest (c.args.new + 1 - c.loop-rank.rank) (at c.loop-rank.stops) (at c.args.heads.now) (at c.loop-rank.totals) c.pick-i.result
+near : (c : In-Some) → Nearest (c.args.new + 1 - c.loop-rank.rank) (at c.loop-rank.stops) (at c.args.heads.now) (at c.loop-rank.totals) c.in-Some.i
 near c =
     lent_nearest c.loop-rank.stops c.args.heads.now c.loop-rank.totals (c.args.new - c.loop-rank.rank + 1) (c.args.new + 1 - c.loop-rank.rank) (omega arith)
-    ((omega arith)) c.pick-i.ensures
+    ((omega arith)) c.in-Some.ensures
 
 -- the stop that is picked
-picked : (c : After-pick-i) → Least c.args.new (at c.args.heads.now) (at c.loop-rank.totals) (at c.loop-rank.ranks) (at c.loop-rank.stops c.pick-i.result)
+picked : (c : In-Some) → Least c.args.new (at c.args.heads.now) (at c.loop-rank.totals) (at c.loop-rank.ranks) (at c.loop-rank.stops c.in-Some.i)
 picked c = listed_least c.loop-rank.invariant.listed (near c)
 
 pub loop-rank-init : goal.loop-rank-init
 loop-rank-init c = record {
-  stopped = refl;
-  totalled = refl;
-  parented = refl;
-  ranked = refl;
-  started = omega arith;
   listed = listed_begun (omega arith) c.requires.opened c.requires.begun.unsettled;
   settling = search_begun c.requires.ready c.requires.begun;
 }
 
-pub slice_bounds-pick-end : goal.slice_bounds-pick-end
-slice_bounds-pick-end c = omega arith
-
-pub slice_bounds-pick-end-in-loop-rank : goal.slice_bounds-pick-end-in-loop-rank
-slice_bounds-pick-end-in-loop-rank c = sym (length-take-le _ _ ((omega arith)))
-
-pub pick-i-requires : goal.pick-i-requires
-pick-i-requires c = let n = c.args.new - c.loop-rank.rank + 1 in
+pub pick-requires : goal.pick-requires
+pick-requires c = let n = c.args.new - c.loop-rank.rank + 1 in
     let fits : n ≤ length c.loop-rank.stops = omega arith in
-    let long = length-take-le n c.loop-rank.stops fits in (
-      omega arith,
-      lent_keyed c.loop-rank.stops c.args.heads.now c.loop-rank.totals n (c.args.new + 1 - c.loop-rank.rank) (omega arith) fits
-          (λ j lt. let b = c.loop-rank.invariant.listed.below j lt in omega arith)
-          (λ j lt. let b = c.loop-rank.invariant.listed.below j lt in omega arith)
-          (λ j lt. keys_low c.requires.ready c.loop-rank.invariant.settling _ (c.loop-rank.invariant.listed.below j lt)),
-    )
+    let long = length-take-le n c.loop-rank.stops fits in
+    lent_keyed c.loop-rank.stops c.args.heads.now c.loop-rank.totals n (c.args.new + 1 - c.loop-rank.rank) (omega arith) fits
+    (λ j lt. let b = c.loop-rank.invariant.listed.below j lt in omega arith)
+    (λ j lt. let b = c.loop-rank.invariant.listed.below j lt in omega arith)
+    (λ j lt. keys_low c.requires.ready c.loop-rank.invariant.settling _ (c.loop-rank.invariant.listed.below j lt))
 
 pub offset_bounds-stops-i : goal.offset_bounds-stops-i
-offset_bounds-stops-i c = omega (arith, near (goal.at.offset_bounds-stops-i c).After-pick-i)
+offset_bounds-stops-i c = omega (arith, near (goal.at.offset_bounds-stops-i c).In-Some)
 
 pub bounds-stops-i : goal.bounds-stops-i
-bounds-stops-i c = omega (arith, near (goal.at.bounds-stops-i c).After-pick-i)
+bounds-stops-i c = omega (arith, near (goal.at.bounds-stops-i c).In-Some)
 
 pub overflow_cast-q : goal.overflow_cast-q
-overflow_cast-q c = omega (arith, picked (goal.at.overflow_cast-q c).After-pick-i)
+overflow_cast-q c = omega (arith, picked (goal.at.overflow_cast-q c).In-Some)
 
 pub bounds-stops-left : goal.bounds-stops-left
 bounds-stops-left c = omega arith
 
 pub offset_bounds-stops-i-in-loop-rank : goal.offset_bounds-stops-i-in-loop-rank
-offset_bounds-stops-i-in-loop-rank c = omega (arith, near (goal.at.offset_bounds-stops-i-in-loop-rank c).After-pick-i)
+offset_bounds-stops-i-in-loop-rank c = omega (arith, near (goal.at.offset_bounds-stops-i-in-loop-rank c).In-Some)
 
 pub bounds-stops-i-in-loop-rank : goal.bounds-stops-i-in-loop-rank
-bounds-stops-i-in-loop-rank c = omega (arith, near (goal.at.bounds-stops-i-in-loop-rank c).After-pick-i)
+bounds-stops-i-in-loop-rank c = omega (arith, near (goal.at.bounds-stops-i-in-loop-rank c).In-Some)
 
 pub offset_bounds-ranks-q : goal.offset_bounds-ranks-q
-offset_bounds-ranks-q c = omega (arith, picked (goal.at.offset_bounds-ranks-q c).After-pick-i)
+offset_bounds-ranks-q c = omega (arith, picked (goal.at.offset_bounds-ranks-q c).In-Some)
 
 pub bounds-ranks-q : goal.bounds-ranks-q
-bounds-ranks-q c = omega (arith, picked (goal.at.bounds-ranks-q c).After-pick-i)
+bounds-ranks-q c = omega (arith, picked (goal.at.bounds-ranks-q c).In-Some)
 
 pub settle-requires : goal.settle-requires
-settle-requires c = let lt = (picked (goal.at.settle-requires c).After-pick-i).below in
+settle-requires c = let lt = (picked (goal.at.settle-requires c).In-Some).below in
     record {
       few = c.requires.ready.most;
       stop = lt;
@@ -116,21 +106,37 @@ settle-requires c = let lt = (picked (goal.at.settle-requires c).After-pick-i).b
       most = c.loop-rank.invariant.settling.high _ (omega arith);
     }
 
-pub loop-rank-preserved : goal.loop-rank-preserved
-loop-rank-preserved c = let left = c.args.new - c.loop-rank.rank in
-    let moved = set_stored c.loop-rank.stops c.pick-i.result (at c.loop-rank.stops left) ((omega (arith, near (goal.at.loop-rank-preserved c).After-pick-i))) in
+-- a round turned
+turned : (c : After-settle) → Nearest (c.args.new + 1 - c.loop-rank.rank) (at c.loop-rank.stops) (at c.args.heads.now) (at c.loop-rank.totals) c.in-Some.i
+    → Least c.args.new (at c.args.heads.now) (at c.loop-rank.totals) (at c.loop-rank.ranks) (at c.loop-rank.stops c.in-Some.i)
+    → Rounding c.args.cranes c.args.new c.args.plan.now c.args.heads.now c.args.costs.now
+    (set c.loop-rank.stops c.in-Some.i (at c.loop-rank.stops (c.args.new - c.loop-rank.rank))) c.settle.new.totals c.settle.new.parents
+    (set c.loop-rank.ranks (at c.loop-rank.stops c.in-Some.i) c.loop-rank.rank) (c.loop-rank.rank + 1)
+turned c i q = let left = c.args.new - c.loop-rank.rank in
+    let moved = set_stored c.loop-rank.stops c.in-Some.i (at c.loop-rank.stops left) (omega arith) in
     let fewer : c.args.new + 1 - (c.loop-rank.rank + 1) ≡ left = omega arith in
-    let stored = set_stored c.loop-rank.ranks (at c.loop-rank.stops c.pick-i.result) c.loop-rank.rank ((omega (arith, picked (goal.at.loop-rank-preserved c).After-pick-i))) in
+    let stored = set_stored c.loop-rank.ranks (at c.loop-rank.stops c.in-Some.i) c.loop-rank.rank (omega arith) in
     record {
-      stopped = search rules;
-      totalled = search rules;
-      parented = search rules;
-      ranked = search rules;
-      started = omega arith;
-      listed = rw fewer (listed_turned c.loop-rank.invariant.listed (omega arith) (near (goal.at.loop-rank-preserved c).After-pick-i).below (omega arith) moved stored);
-      settling = search_turned c.requires.ready c.loop-rank.invariant.settling c.loop-rank-test.true (picked (goal.at.loop-rank-preserved c).After-pick-i) stored c.settle.ensures;
+      listed = rw fewer (listed_turned c.loop-rank.invariant.listed (omega arith) i.below (omega arith) moved stored);
+      settling = search_turned c.requires.ready c.loop-rank.invariant.settling c.loop-rank-test.true q stored c.settle.ensures;
     }
 
+-- the rounds are done: no stop is open
+done : {k N i : ℕ} {plan heads costs stops totals parents ranks : List ℕ} → Ready k N (follower plan) (leg_at costs) (at heads)
+    → Rounding k N plan heads costs stops totals parents ranks i → N < i
+    → Searched k N (follower plan) (leg_at costs) (at totals) (at parents) (at ranks)
+done ready r lt = search_ended ready r.settling lt (λ p l o. let h = (r.listed.every p l o).1.0 in absurd (omega arith))
+
+pub loop-rank-preserved : goal.loop-rank-preserved
+loop-rank-preserved c = turned (goal.at.loop-rank-preserved c).After-settle (near (goal.at.loop-rank-preserved c).In-Some) (picked (goal.at.loop-rank-preserved c).In-Some)
+
+pub returns-in-Some : goal.returns-in-Some
+returns-in-Some c = done c.requires.ready (turned (goal.at.returns-in-Some c).After-settle (near (goal.at.returns-in-Some c).In-Some) (picked (goal.at.returns-in-Some c).In-Some)) (omega arith)
+
+pub returns-in_default : goal.returns-in_default
+returns-in_default c = let n = c.args.new - c.loop-rank.rank + 1 in
+    let fits : n ≤ length c.loop-rank.stops = omega arith in
+    let long = length-take-le n c.loop-rank.stops fits in absurd (omega (arith, c.in_default.ensures))
+
 pub returns : goal.returns
-returns c = search_ended c.requires.ready c.loop-rank.invariant.settling c.loop-rank-test.false
-    (λ p lt o. let h = (c.loop-rank.invariant.listed.every p lt o).1.0 in absurd (omega arith))
+returns c = done c.requires.ready c.loop-rank.invariant c.loop-rank-test.false

@@ -10,18 +10,10 @@ use Rattle.dispatch.specs.Search.{at}
 use Rattle.dispatch.proofs.search.Laws.{Listed, Settling}
 use Rattle.dispatch.proofs.search.rounds.Given as goal
 
--- the invariant, of lists that keep their lengths
-pub record Rounding (k N : ℕ) (plan heads costs stops₀ totals₀ parents₀ ranks₀ stops totals parents ranks : List ℕ) (i : ℕ) : Type 0 where
-  pub stopped : length stops ≡ length stops₀
-  pub totalled : length totals ≡ length totals₀
-  pub parented : length parents ≡ length parents₀
-  pub ranked : length ranks ≡ length ranks₀
-  pub started : 1 ≤ i
+-- the invariant
+pub record Rounding (k N : ℕ) (plan heads costs stops totals parents ranks : List ℕ) (i : ℕ) : Type 0 where
   pub listed : Listed N (N + 1 - i) (at stops) (at ranks)
   pub settling : Settling k N (follower plan) (leg_at costs) (at heads) i (at totals) (at parents) (at ranks)
 
 abbrev pub invariant-loop-rank : goal.invariant-loop-rank
-invariant-loop-rank l = Rounding l.cranes l.new l.plan l.heads l.costs l.initial.stops l.initial.totals l.initial.parents l.initial.ranks l.stops l.totals l.parents l.ranks l.rank
-
-abbrev pub decreases-loop-rank : goal.decreases-loop-rank
-decreases-loop-rank l = l.new + 1 - l.rank
+invariant-loop-rank l = Rounding l.cranes l.new l.plan l.heads l.costs l.stops l.totals l.parents l.ranks l.rank

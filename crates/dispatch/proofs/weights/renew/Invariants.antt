@@ -41,6 +41,3 @@ module _ (new : ℕ) (f net : ℕ → ℕ) (weights₀ : List ℤ) where
 
 abbrev pub invariant-loop-p : goal.invariant-loop-p
 invariant-loop-p l = Renewing l.new (follower l.plan) (net_of (follower l.plan) (leg_at l.costs) (at l.totals)) l.initial.weights l.weights l.p
-
-abbrev pub decreases-loop-p : goal.decreases-loop-p
-decreases-loop-p l = l.new + 1 - l.p
