@@ -6,28 +6,7 @@ ghost use Rattle.dispatch.specs.Search.{at, net_of};
 ghost use Rattle.dispatch.specs.Insertion.{Freed, NetsGiven, ChoiceGiven, least_end};
 
 use crate::legs;
-
-// Of each end the net cost of freeing it, and the stop that it follows.
-pub(crate) fn fill_nets(
-    cranes: usize,
-    new: usize,
-    plan: &[u16],
-    costs: &[u32],
-    totals: &[u64],
-    nets: &mut [u64],
-    before: &mut [usize],
-)
-    requires { NetsGiven cranes new plan.now costs.now totals.now nets.old before.old }
-    ensures { Freed cranes new (follower plan.now) (net_of (follower plan.now) (leg_at costs.now) (at totals.now)) (at before.new) (at nets.new) }
-{
-    for p in 0..new {
-        let b = plan[p] as usize;
-        if b < cranes {
-            nets[b] = totals[p] - legs::cost(costs, p, b) as u64;
-            before[b] = p;
-        }
-    }
-}
+use book::Book;
 
 // Whether a sum is below the least so far, or as low with a shorter way.
 fn better(sum: u64, way: u32, least: u64, shortest: u32) -> bool
@@ -39,23 +18,49 @@ fn better(sum: u64, way: u32, least: u64, shortest: u32) -> bool
     sum < least
 }
 
-// The end of the least sum of its net cost and the way to it from the new call; among equals of the least way; then of the
-// lowest number.
-pub(crate) fn choose(cranes: usize, new: usize, nets: &[u64], costs: &[u32]) -> usize
-    requires { ChoiceGiven cranes new nets.now costs.now }
-    ensures { result ≡ least_end cranes new (at nets.now) (leg_at costs.now) }
-{
-    let mut best = 0;
-    let mut shortest = legs::cost(costs, new, 0);
-    let mut least = nets[0] + shortest as u64;
-    for e in 1..cranes {
-        let way = legs::cost(costs, new, e);
-        let sum = nets[e] + way as u64;
-        if better(sum, way, least, shortest) {
-            best = e;
-            shortest = way;
-            least = sum;
+// Of each end the net cost of freeing it, and the stop that it follows.
+#[derive(Drop)]
+pub(crate) struct Ends {
+    pub nets: [u64; Book::CRANES],
+    pub before: [usize; Book::CRANES],
+}
+
+impl Ends {
+    // Those of a plan, by the totals of its stops.
+    pub(crate) fn of(cranes: usize, new: usize, plan: &[u16], costs: &[u32], totals: &[u64]) -> Self
+        requires { NetsGiven cranes new plan.now costs.now totals.now }
+        ensures { Freed cranes new (follower plan.now) (net_of (follower plan.now) (leg_at costs.now) (at totals.now)) (at result.before) (at result.nets) }
+    {
+        let mut nets = [0; Book::CRANES];
+        let mut before = [0; Book::CRANES];
+        for p in 0..new {
+            let b = plan[p] as usize;
+            if b < cranes {
+                nets[b] = totals[p] - legs::cost(costs, p, b) as u64;
+                before[b] = p;
+            }
         }
+        Ends { nets, before }
     }
-    best
+
+    // The end of the least sum of its net cost and the way to it from the new call; among equals of the least way; then of the
+    // lowest number.
+    pub(crate) fn choose(&self, cranes: usize, new: usize, costs: &[u32]) -> usize
+        requires { ChoiceGiven cranes new self.now.nets costs.now }
+        ensures { result ≡ least_end cranes new (at self.now.nets) (leg_at costs.now) }
+    {
+        let mut best = 0;
+        let mut shortest = legs::cost(costs, new, 0);
+        let mut least = self.nets[0] + shortest as u64;
+        for e in 1..cranes {
+            let way = legs::cost(costs, new, e);
+            let sum = self.nets[e] + way as u64;
+            if better(sum, way, least, shortest) {
+                best = e;
+                shortest = way;
+                least = sum;
+            }
+        }
+        best
+    }
 }

@@ -70,10 +70,9 @@ end_within c = omega (arith, end_below c, c.requires.cranes)
 
 pub find-requires : goal.find-requires
 find-requires c = record {
-  cranes = c.requires.stops;
-  netted = c.requires.cranes;
-  freed = c.requires.cranes;
-  sized = record { planned = long (goal.at.find-requires c).Start; costed = c.requires.costed; totalled = c.requires.witnessed.few; parented = c.requires.witnessed.few; ranked = c.requires.witnessed.few };
+  cranes = c.requires.cranes;
+  stops = c.requires.stops;
+  sized = record { planned = long (goal.at.find-requires c).Start; costed = c.requires.costed };
   witnessed = c.requires.witnessed;
 }
 
@@ -82,7 +81,6 @@ end-end-requires c = record {
   crane = c.requires.crane;
   cranes = c.requires.cranes;
   few = c.requires.witnessed.few;
-  netted = search rules;
   costed = c.requires.costed;
   low = ends_low c.find.ensures.1;
 }
@@ -98,17 +96,16 @@ renew-requires c = record {
   totalled = c.find.ensures.1.searched.totals;
 }
 
-pub offset_bounds-before-end : goal.offset_bounds-before-end
-offset_bounds-before-end c = omega (arith, end_within (goal.at.offset_bounds-before-end c).After-end-end)
+pub offset_bounds-ends-end : goal.offset_bounds-ends-end
+offset_bounds-ends-end c = omega (arith, end_within (goal.at.offset_bounds-ends-end c).After-end-end)
 
-pub bounds-before-end : goal.bounds-before-end
-bounds-before-end c = end_within (goal.at.bounds-before-end c).After-end-end
+pub bounds-ends-end : goal.bounds-ends-end
+bounds-ends-end c = end_within (goal.at.bounds-ends-end c).After-end-end
 
 pub flip-requires : goal.flip-requires
 flip-requires c = record {
+  few = c.requires.witnessed.few;
   stop = le_of_lt (c.find.ensures.1.freed.stop c.end-end.result (end_below (goal.at.flip-requires c).After-end-end));
-  parented = omega (arith, c.find.auto.parents);
-  ranked = omega (arith, c.find.auto.ranks);
   planned = omega (arith, long (goal.at.flip-requires c).Start, c.find.auto.plan);
   chains = c.find.ensures.1.searched.nets.chains;
 }

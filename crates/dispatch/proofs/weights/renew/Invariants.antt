@@ -1,6 +1,6 @@
 -- `dispatch::weights::renew` meets its contract: each follower follows one stop, so that no weight is renewed twice.
 -- Assumes nothing.
-use Prim.Native.Nat.{ℕ, ◌+◌, ◌-◌, ◌<◌, ◌≤◌}
+use Prim.Native.Nat.{ℕ, ◌+◌, ◌<◌, ◌≤◌}
 use mathlib.Core.List.{List}
 use mathlib.Core.Path.{◌≡◌, refl, ◌∙◌}
 use lib.IntN.{ℤ, pos, neg_ℤ, ◌-ℤ◌}

@@ -1,19 +1,19 @@
--- `dispatch::search::rounds` meets its contract: each round settles an open stop of least key, which keeps the invariant.
+-- `dispatch::search::Search::rounds` meets its contract: each round settles an open stop of least key, which keeps the invariant.
 -- Assumes nothing.
 use Prim.Native.Nat.{ℕ, ◌+◌, ◌-◌, ◌<◌, ◌≤◌}
 use mathlib.Core.List.{List}
-use mathlib.Core.Path.{◌≡◌, refl, sym}
-use borrow.Author.Rules.{rules}
+use mathlib.Core.Path.{◌≡◌}
 use lib.ListN.{length, set, take}
 use lib.Seq.{length-take-le, get_or-take, get_or-set_same, get_or-set_other}
 use native.Mathlib.Omega.{arith}
 use Rattle.book.specs.Book.{follower}
-use Rattle.dispatch.specs.Legs.{leg_at}
+use Rattle.base.proofs.Lists.{get_or-padded}
+use Rattle.dispatch.specs.Legs.{plan_room, leg_at}
 use Rattle.dispatch.specs.Search.{at, Keyed, Nearest, Ready, Searched}
 use Rattle.dispatch.proofs.search.Laws.{Stored, Least, listed_begun, listed_least, listed_turned, search_begun, search_turned, search_ended, leg-within, keys_low}
-use Rattle.dispatch.proofs.search.rounds.Invariants.{Rounding}
-use Rattle.dispatch.proofs.search.rounds.Goals as goal
-use Rattle.dispatch.proofs.search.rounds.Goals.{After-settle, In-Some}
+use Rattle.dispatch.proofs.search.Search.rounds.Invariants.{Rounding}
+use Rattle.dispatch.proofs.search.Search.rounds.Goals as goal
+use Rattle.dispatch.proofs.search.Search.rounds.Goals.{After-settle, In-Some}
 
 set_stored : (l : List ℕ) (i x : ℕ) → i < length l → Stored i x (at l) (at (set l i x))
 set_stored l i x lt = record { here = get_or-set_same l i x 0 lt; others = λ j ne. get_or-set_other l i j x 0 ne }
@@ -44,18 +44,18 @@ module _ (stops heads totals : List ℕ) (n left : ℕ) (all : n ≡ left) (fits
       }
 
 -- where the stop that is picked stands
-near : (c : In-Some) → Nearest (c.args.new + 1 - c.loop-rank.rank) (at c.loop-rank.stops) (at c.args.heads.now) (at c.loop-rank.totals) c.in-Some.i
+near : (c : In-Some) → Nearest (c.args.new + 1 - c.loop-rank.rank) (at c.loop-rank.stops) (at c.args.heads.now) (at c.loop-rank.self.totals) c.in-Some.i
 near c =
-    lent_nearest c.loop-rank.stops c.args.heads.now c.loop-rank.totals (c.args.new - c.loop-rank.rank + 1) (c.args.new + 1 - c.loop-rank.rank) (omega arith)
+    lent_nearest c.loop-rank.stops c.args.heads.now c.loop-rank.self.totals (c.args.new - c.loop-rank.rank + 1) (c.args.new + 1 - c.loop-rank.rank) (omega arith)
     ((omega arith)) c.in-Some.ensures
 
 -- the stop that is picked
-picked : (c : In-Some) → Least c.args.new (at c.args.heads.now) (at c.loop-rank.totals) (at c.loop-rank.ranks) (at c.loop-rank.stops c.in-Some.i)
+picked : (c : In-Some) → Least c.args.new (at c.args.heads.now) (at c.loop-rank.self.totals) (at c.loop-rank.self.ranks) (at c.loop-rank.stops c.in-Some.i)
 picked c = listed_least c.loop-rank.invariant.listed (near c)
 
 pub loop-rank-init : goal.loop-rank-init
 loop-rank-init c = record {
-  listed = listed_begun (omega arith) c.requires.opened c.requires.begun.unsettled;
+  listed = listed_begun (omega arith) (λ p lt. rw c.own-stops.ensures (get_or-padded plan_room c.args.new (λ i. i) 0 0 p lt)) c.requires.begun.unsettled;
   settling = search_begun c.requires.ready c.requires.begun;
 }
 
@@ -63,34 +63,28 @@ pub pick-requires : goal.pick-requires
 pick-requires c = let n = c.args.new - c.loop-rank.rank + 1 in
     let fits : n ≤ length c.loop-rank.stops = omega arith in
     let long = length-take-le n c.loop-rank.stops fits in
-    lent_keyed c.loop-rank.stops c.args.heads.now c.loop-rank.totals n (c.args.new + 1 - c.loop-rank.rank) (omega arith) fits
+    lent_keyed c.loop-rank.stops c.args.heads.now c.loop-rank.self.totals n (c.args.new + 1 - c.loop-rank.rank) (omega arith) fits
     (λ j lt. let b = c.loop-rank.invariant.listed.below j lt in omega arith)
     (λ j lt. let b = c.loop-rank.invariant.listed.below j lt in omega arith)
     (λ j lt. keys_low c.requires.ready c.loop-rank.invariant.settling _ (c.loop-rank.invariant.listed.below j lt))
 
 pub offset_bounds-stops-i : goal.offset_bounds-stops-i
-offset_bounds-stops-i c = omega (arith, near (goal.at.offset_bounds-stops-i c).In-Some)
+offset_bounds-stops-i c = let lt = (lent_nearest c.loop-rank.stops c.args.heads.now c.loop-rank.self.totals (c.args.new - c.loop-rank.rank + 1) (c.args.new + 1 - c.loop-rank.rank) (omega arith) (omega arith) c.in-Some.ensures).below in omega arith
 
 pub bounds-stops-i : goal.bounds-stops-i
-bounds-stops-i c = omega (arith, near (goal.at.bounds-stops-i c).In-Some)
+bounds-stops-i c = let lt = (lent_nearest c.loop-rank.stops c.args.heads.now c.loop-rank.self.totals (c.args.new - c.loop-rank.rank + 1) (c.args.new + 1 - c.loop-rank.rank) (omega arith) (omega arith) c.in-Some.ensures).below in omega (arith, c.requires.ready.most)
 
 pub overflow_cast-q : goal.overflow_cast-q
-overflow_cast-q c = omega (arith, picked (goal.at.overflow_cast-q c).In-Some)
+overflow_cast-q c = let lt = c.loop-rank.invariant.listed.below c.in-Some.i (lent_nearest c.loop-rank.stops c.args.heads.now c.loop-rank.self.totals (c.args.new - c.loop-rank.rank + 1) (c.args.new + 1 - c.loop-rank.rank) (omega arith) (omega arith) c.in-Some.ensures).below in omega arith
 
 pub bounds-stops-left : goal.bounds-stops-left
-bounds-stops-left c = omega arith
+bounds-stops-left c = omega (arith, c.requires.ready.most)
 
 pub offset_bounds-stops-i-in-loop-rank : goal.offset_bounds-stops-i-in-loop-rank
 offset_bounds-stops-i-in-loop-rank c = omega (arith, near (goal.at.offset_bounds-stops-i-in-loop-rank c).In-Some)
 
 pub bounds-stops-i-in-loop-rank : goal.bounds-stops-i-in-loop-rank
 bounds-stops-i-in-loop-rank c = omega (arith, near (goal.at.bounds-stops-i-in-loop-rank c).In-Some)
-
-pub offset_bounds-ranks-q : goal.offset_bounds-ranks-q
-offset_bounds-ranks-q c = omega (arith, picked (goal.at.offset_bounds-ranks-q c).In-Some)
-
-pub bounds-ranks-q : goal.bounds-ranks-q
-bounds-ranks-q c = omega (arith, picked (goal.at.bounds-ranks-q c).In-Some)
 
 pub settle-requires : goal.settle-requires
 settle-requires c = let lt = (picked (goal.at.settle-requires c).In-Some).below in
@@ -100,25 +94,24 @@ settle-requires c = let lt = (picked (goal.at.settle-requires c).In-Some).below 
       follows = c.requires.ready.below _ lt;
       planned = omega arith;
       costed = c.requires.sized.costed;
-      totalled = omega arith;
-      parented = omega arith;
       leg = leg-within c.requires.ready c.loop-rank.invariant.settling _ (omega arith);
       most = c.loop-rank.invariant.settling.high _ (omega arith);
     }
 
 -- a round turned
-turned : (c : After-settle) → Nearest (c.args.new + 1 - c.loop-rank.rank) (at c.loop-rank.stops) (at c.args.heads.now) (at c.loop-rank.totals) c.in-Some.i
-    → Least c.args.new (at c.args.heads.now) (at c.loop-rank.totals) (at c.loop-rank.ranks) (at c.loop-rank.stops c.in-Some.i)
+turned : (c : After-settle) → Nearest (c.args.new + 1 - c.loop-rank.rank) (at c.loop-rank.stops) (at c.args.heads.now) (at c.loop-rank.self.totals) c.in-Some.i
+    → Least c.args.new (at c.args.heads.now) (at c.loop-rank.self.totals) (at c.loop-rank.self.ranks) (at c.loop-rank.stops c.in-Some.i)
     → Rounding c.args.cranes c.args.new c.args.plan.now c.args.heads.now c.args.costs.now
-    (set c.loop-rank.stops c.in-Some.i (at c.loop-rank.stops (c.args.new - c.loop-rank.rank))) c.settle.new.totals c.settle.new.parents
-    (set c.loop-rank.ranks (at c.loop-rank.stops c.in-Some.i) c.loop-rank.rank) (c.loop-rank.rank + 1)
+    (set c.loop-rank.stops c.in-Some.i (at c.loop-rank.stops (c.args.new - c.loop-rank.rank))) c.settle.new.self.totals c.settle.new.self.parents
+    c.settle.new.self.ranks (c.loop-rank.rank + 1)
 turned c i q = let left = c.args.new - c.loop-rank.rank in
     let moved = set_stored c.loop-rank.stops c.in-Some.i (at c.loop-rank.stops left) (omega arith) in
     let fewer : c.args.new + 1 - (c.loop-rank.rank + 1) ≡ left = omega arith in
-    let stored = set_stored c.loop-rank.ranks (at c.loop-rank.stops c.in-Some.i) c.loop-rank.rank (omega arith) in
+    let stored : Stored (at c.loop-rank.stops c.in-Some.i) c.loop-rank.rank (at c.loop-rank.self.ranks) (at c.settle.new.self.ranks) =
+    rw c.settle.ensures.0 (set_stored c.loop-rank.self.ranks (at c.loop-rank.stops c.in-Some.i) c.loop-rank.rank (omega arith)) in
     record {
       listed = rw fewer (listed_turned c.loop-rank.invariant.listed (omega arith) i.below (omega arith) moved stored);
-      settling = search_turned c.requires.ready c.loop-rank.invariant.settling c.loop-rank-test.true q stored c.settle.ensures;
+      settling = search_turned c.requires.ready c.loop-rank.invariant.settling c.loop-rank-test.true q stored c.settle.ensures.1;
     }
 
 -- the rounds are done: no stop is open

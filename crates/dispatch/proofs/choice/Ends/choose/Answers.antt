@@ -1,9 +1,9 @@
--- `dispatch::choice::choose` meets its contract: the loop keeps the end preferred of those below e, with its sum and its way.
+-- `dispatch::choice::Ends::choose` meets its contract: the loop keeps the end preferred of those below e, with its sum and its way.
 -- Assumes nothing.
 use native.Mathlib.Omega.{arith}
-use Rattle.dispatch.proofs.choice.choose.Invariants.{choose_begun, choose_ended, choose_kept, choose_taken}
-use Rattle.dispatch.proofs.choice.choose.Goals as goal
-use Rattle.dispatch.proofs.choice.choose.Goals.{else-better, then-better}
+use Rattle.dispatch.proofs.choice.Ends.choose.Invariants.{choose_begun, choose_ended, choose_kept, choose_taken}
+use Rattle.dispatch.proofs.choice.Ends.choose.Goals as goal
+use Rattle.dispatch.proofs.choice.Ends.choose.Goals.{else-better, then-better}
 
 pub overflow_add-least : goal.overflow_add-least
 overflow_add-least c = omega (arith, c.requires.low 0 c.requires.crane)

@@ -1,6 +1,6 @@
--- `dispatch::choice::choose` meets its contract: the loop keeps the end preferred of those below e, with its sum and its way.
+-- `dispatch::choice::Ends::choose` meets its contract: the loop keeps the end preferred of those below e, with its sum and its way.
 -- Assumes nothing.
-use Prim.Native.Nat.{ℕ, ◌+◌, ◌-◌, ◌<◌, ◌≤◌}
+use Prim.Native.Nat.{ℕ, ◌+◌, ◌<◌, ◌≤◌}
 use mathlib.Core.Bool.{Bool, true, false, ◌&&◌, ◌||◌, false≢true}
 use mathlib.Core.List.{List, [], ◌∷◌}
 use mathlib.Core.Path.{◌≡◌, sym, ◌∙◌}
@@ -13,7 +13,7 @@ use Rattle.workfunction.specs.Choice.{preferred}
 use Rattle.workfunction.proofs.Keys.{NoLater, no_later_by_number, no_later_by, preferred_below, preferred_stays, preferred_gives_way}
 use Rattle.dispatch.specs.Legs.{leg_at}
 use Rattle.dispatch.specs.Search.{at}
-use Rattle.dispatch.proofs.choice.choose.Given as goal
+use Rattle.dispatch.proofs.choice.Ends.choose.Given as goal
 
 -- what the test of a sum a and a way w against the least sum l and its way s tells
 module _ (a w l s : ℕ) where
@@ -104,4 +104,4 @@ module _ (net way : ℕ → ℕ) (k : ℕ) where
             (λ same. let n = near same in no_later_by way [] e best (omega arith) (λ alike. absurd (omega arith)))
 
 abbrev pub invariant-loop-e : goal.invariant-loop-e
-invariant-loop-e l = Choosing (at l.nets) (leg_at l.costs l.new) l.cranes l.best l.shortest l.least l.e
+invariant-loop-e l = Choosing (at l.self.nets) (leg_at l.costs l.new) l.cranes l.best l.shortest l.least l.e
