@@ -46,6 +46,13 @@ pub record ChoiceGiven (k N : ℕ) (nets costs : List ℕ) : Type 0 where
   pub costed : Costed costs
   pub low : (e : ℕ) → e < k → at nets e ≤ net_base + most_metres
 
+-- of k ends the first: of the least sum; among equals of the least way; then of the lowest number
+pub record Foremost (k : ℕ) (sum way : ℕ → ℕ) (e : ℕ) : Type 0 where
+  pub below : e < k
+  pub sums : (t : ℕ) → t < k → sum e ≤ sum t
+  pub ways : (t : ℕ) → t < k → sum e ≡ sum t → way e ≤ way t
+  pub number : (t : ℕ) → t < k → sum e ≡ sum t → way e ≡ way t → e ≤ t
+
 -- of the ends below k the one of the least net cost and way from N together; among equals of the least way; then of the lowest
 -- number
 abbrev pub least_end : ℕ → ℕ → (ℕ → ℕ) → (ℕ → ℕ → ℕ) → ℕ

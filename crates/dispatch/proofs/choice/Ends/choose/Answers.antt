@@ -1,21 +1,24 @@
--- `dispatch::choice::Ends::choose` meets its contract: the loop keeps the end preferred of those below e, with its sum and its way.
--- Assumes nothing.
+-- `dispatch::choice::Ends::choose` meets its contract: the first end comes no later than any other by its sum, its way and its number,
+-- and so it is the one preferred. Assumes nothing.
+use Prim.Native.Nat.{ℕ, ◌<◌}
+use mathlib.Core.List.{[], ◌∷◌}
+use mathlib.Core.Path.{◌≡◌, ◌∙◌}
 use native.Mathlib.Omega.{arith}
-use Rattle.dispatch.proofs.choice.Ends.choose.Invariants.{choose_begun, choose_ended, choose_kept, choose_taken}
+use Rattle.std.proofs.Common.{Some, None}
+use Rattle.std.specs.declared.option.Option.{Option}
+use Rattle.std.specs.Option.{MatchOption, unwrap_or}
+use Rattle.workfunction.specs.Choice.{preferred}
+use Rattle.workfunction.proofs.Keys.{no_later_by_number, no_later_by, preferred_only}
+use Rattle.dispatch.specs.Insertion.{Foremost}
 use Rattle.dispatch.proofs.choice.Ends.choose.Goals as goal
-use Rattle.dispatch.proofs.choice.Ends.choose.Goals.{else-better, then-better}
 
-pub overflow_add-least : goal.overflow_add-least
-overflow_add-least c = omega (arith, c.requires.low 0 c.requires.crane)
-
-pub loop-e-init : goal.loop-e-init
-loop-e-init c = choose_begun _ _ _ c.requires.crane c.cost-shortest.ensures
-
-pub overflow_add-sum : goal.overflow_add-sum
-overflow_add-sum c = omega (arith, c.requires.low c.loop-e.e c.loop-e-test.true)
-
-pub loop-e-preserved : goal.loop-e-preserved
-loop-e-preserved c = elim c.if-better.branch [ then-better w ↦ rw (w.best-is, w.shortest-is, w.least-is) (choose_taken _ _ _ c.loop-e.invariant c.loop-e-test.true c.cost-way.ensures c.better.ensures w.if-better.true) | else-better w ↦ rw (w.best-is, w.shortest-is, w.least-is) (choose_kept _ _ _ c.loop-e.invariant c.loop-e-test.true c.cost-way.ensures c.better.ensures w.if-better.false) ]
+foremost_preferred : (k : ℕ) (sum way : ℕ → ℕ) (o : Option ℕ) → 0 < k → MatchOption o (k ≡ 0) (λ e. Foremost k sum way e)
+    → unwrap_or o 0 ≡ preferred (sum ∷ way ∷ []) k
+foremost_preferred k sum way None some none = absurd (omega arith)
+foremost_preferred k sum way (Some e) some first =
+    preferred_only (sum ∷ way ∷ []) k some e first.below
+    (λ t lt. no_later_by sum (way ∷ []) e t (first.sums t lt)
+    (λ same. no_later_by way [] e t (first.ways t lt same) (λ alike. no_later_by_number e t (first.number t lt same alike))))
 
 pub returns : goal.returns
-returns c = choose_ended _ _ _ c.loop-e.invariant c.loop-e-test.false
+returns c = c.unwrap_or.ensures ∙ foremost_preferred c.args.cranes _ _ c.first.result c.requires.crane c.first.ensures
