@@ -74,8 +74,8 @@ impl Search {
         ensures { Begun new (λ p. leg_at costs.now p new) (at result.totals) (at result.parents) (at result.ranks) }
     {
         let mut totals = [0; legs::ROOM];
-        for p in 0..new + 1 {
-            totals[p] = BASE + legs::cost(costs, p, new) as u64;
+        for (p, leg) in legs::row_to(costs, new, new + 1).iter().enumerate() {
+            totals[p] = BASE + *leg as u64;
         }
         let mut ranks = [OPEN; legs::ROOM];
         ranks[new] = 0;

@@ -2,12 +2,12 @@
 -- Assumes nothing.
 use Prim.Native.Nat.{ℕ, ◌+◌, ◌<◌, ◌≤◌}
 use mathlib.Core.List.{List}
-use mathlib.Core.Path.{◌∙◌}
-use lib.ListN.{set, replicate, length-replicate, get_or-replicate}
+use mathlib.Core.Path.{ap, ◌∙◌}
+use lib.ListN.{length, set, replicate, length-replicate, get_or-replicate}
 use lib.Seq.{get_or-set_same, get_or-set_other}
 use native.Mathlib.Omega.{arith}
-use Rattle.base.proofs.Lists.{Filled, fill_begun, fill_turned, filled_at}
-use Rattle.dispatch.specs.Legs.{plan_room}
+use Rattle.base.proofs.Lists.{Filled, length-up_to, get_or-up_to, fill_begun, fill_turned, filled_at}
+use Rattle.dispatch.specs.Legs.{plan_room, leg_at}
 use Rattle.dispatch.specs.Search.{at, net_base, Begun}
 use Rattle.dispatch.proofs.search.Search.begin.Goals as goal
 
@@ -23,8 +23,14 @@ begun_by {new} s few le = record {
 pub loop-p-init : goal.loop-p-init
 loop-p-init c = fill_begun _ _ _
 
+pub bounds-totals-p : goal.bounds-totals-p
+bounds-totals-p c = let long = simp length-up_to at (ap length c.row_to-leg-items.ensures) in omega (arith, c.requires.0)
+
 pub loop-p-preserved : goal.loop-p-preserved
-loop-p-preserved c = fill_turned _ _ _ _ _ _ (omega arith) c.loop-p.invariant (omega arith) (rw c.cost.ensures)
+loop-p-preserved c = let long = simp length-up_to at (ap length c.row_to-leg-items.ensures) in
+    let lt : c.loop-p.p < c.args.new + 1 = omega arith in
+    fill_turned _ _ _ _ _ _ (omega arith) c.loop-p.invariant lt
+    (rw (c.row_to-leg-items.ensures, get_or-up_to (c.args.new + 1) (λ v. leg_at c.args.costs.now v c.args.new) c.loop-p.p 0 lt))
 
 pub returns : goal.returns
-returns c = begun_by c.loop-p.invariant c.requires.0 c.loop-p-test.false
+returns c = let long = simp length-up_to at (ap length c.row_to-leg-items.ensures) in begun_by c.loop-p.invariant c.requires.0 (omega arith)
