@@ -24,16 +24,16 @@ pub(crate) fn find(
     costs: &[u32],
     weights: &[i64],
     plan: &mut [u16],
-) -> (Search, Ends)
+    search: &mut Search,
+) -> Ends
     requires { FindGiven cranes new plan.old weights.now costs.now }
-    ensures { (plan.new ≡ set plan.old new new) × Found cranes new (follower plan.new) (leg_at costs.now) (at result.0.totals) (at result.0.parents) (at result.0.ranks) (at result.1.before) (at result.1.nets) }
+    ensures { (plan.new ≡ set plan.old new new) × Found cranes new (follower plan.new) (leg_at costs.now) (at search.new.totals) (at search.new.parents) (at search.new.ranks) (at result.before) (at result.nets) }
 {
     plan[new] = new as u16;
     // Step 1: the search for an augmenting path to every stop.
-    let search = Search::run(cranes, new, plan, weights, costs);
+    search.run(cranes, new, plan, weights, costs);
     // Step 2: the net cost of every end.
-    let ends = Ends::of(cranes, new, plan, costs, &search.totals[..]);
-    (search, ends)
+    Ends::of(cranes, new, plan, costs, &search.totals[..])
 }
 
 // The end that is picked.
@@ -59,7 +59,8 @@ pub(crate) fn insert(
     requires { InsertGiven cranes new pick plan.old weights.old costs.now }
     ensures { CallInserted cranes new pick costs.now plan.old weights.old result plan.new weights.new }
 {
-    let (search, ends) = find(cranes, new, costs, weights, plan);
+    let mut search = Search::new();
+    let ends = find(cranes, new, costs, weights, plan, &mut search);
     // Step 3: the end of the smallest sum, or the one given.
     let end = end(pick, cranes, new, &ends, costs);
     // Step 4: the new weights, and the plan flipped along the path to that end.

@@ -9,6 +9,7 @@ ghost use Rattle.dispatch.specs.Quote.{quote_refusal};
 ghost use Rattle.dispatch.specs.Search.{at, net_base};
 
 use crate::choice::Ends;
+use crate::search::Search;
 use crate::{NetCosts, insert, legs, search};
 use base::Verdict;
 use book::Book;
@@ -24,8 +25,8 @@ pub(crate) fn of_book(book: Book, table: &[u32], place: u16, costs: &mut [u32]) 
     let mut plan = book.plan;
     legs::of_book(book, table, costs);
     legs::extend(table, new, place, costs);
-    let (_, ends) = insert::find(cranes, new, costs, &weights[..], &mut plan[..]);
-    ends
+    let mut search = Search::new();
+    insert::find(cranes, new, costs, &weights[..], &mut plan[..], &mut search)
 }
 
 // The signed net costs of the cranes, from those that the search counts from its base.

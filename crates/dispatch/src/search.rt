@@ -13,7 +13,7 @@ pub(crate) const BASE: u64 = 1_099_511_627_776;
 // Weights are raised by this, so that none is below a leg.
 const LIFT: i64 = 1_099_512_676_352;
 
-// The rank of a stop that is not settled.
+// The rank of a stop that is not settled: a number and no `None`, since the theorem of the chains (`Chains`) compares ranks as numbers.
 const OPEN: usize = legs::ROOM;
 
 // The head of a stop: the weight of its follower, raised, less the leg to it.
@@ -68,22 +68,26 @@ pub(crate) struct Search {
 }
 
 impl Search {
-    // At first every stop may take the new call; the new call itself is settled.
-    fn begin(new: usize, costs: &[u32]) -> Self
-        requires { (new < plan_room) × Costed costs.now }
-        ensures { Begun new (λ p. leg_at costs.now p new) (at result.totals) (at result.parents) (at result.ranks) }
-    {
-        let mut totals = [0; legs::ROOM];
-        for (p, leg) in legs::row_to(costs, new, new + 1).iter().enumerate() {
-            totals[p] = BASE + *leg as u64;
-        }
-        let mut ranks = [OPEN; legs::ROOM];
-        ranks[new] = 0;
+    // One of which nothing is known yet.
+    pub(crate) fn new() -> Self {
         Search {
-            totals,
-            parents: [new; legs::ROOM],
-            ranks,
+            totals: [0; legs::ROOM],
+            parents: [0; legs::ROOM],
+            ranks: [0; legs::ROOM],
         }
+    }
+
+    // At first every stop may take the new call; the new call itself is settled.
+    fn begin(&mut self, new: usize, costs: &[u32])
+        requires { (new < plan_room) × Costed costs.now }
+        ensures { Begun new (λ p. leg_at costs.now p new) (at self.new.totals) (at self.new.parents) (at self.new.ranks) }
+    {
+        for (p, leg) in legs::row_to(costs, new, new + 1).iter().enumerate() {
+            self.totals[p] = BASE + *leg as u64;
+            self.parents[p] = new;
+            self.ranks[p] = OPEN;
+        }
+        self.ranks[new] = 0;
     }
 
     // One row of work: each stop of the row takes the way over the stop `from`, of net cost `net`, where that is cheaper.
@@ -132,19 +136,19 @@ impl Search {
     // The net costs of the stops of a plan whose weights vouch for it, for one more call, of the number `new`, which is followed by
     // itself for the moment.
     pub(crate) fn run(
+        &mut self,
         cranes: usize,
         new: usize,
         plan: &[u16],
         weights: &[i64],
         costs: &[u32],
-    ) -> Self
+    )
         requires { SearchGiven cranes new plan.now weights.now costs.now }
-        ensures { Searched cranes new (follower plan.now) (leg_at costs.now) (at result.totals) (at result.parents) (at result.ranks) }
+        ensures { Searched cranes new (follower plan.now) (leg_at costs.now) (at self.new.totals) (at self.new.parents) (at self.new.ranks) }
     {
         let heads = heads_of(new, plan, weights, costs);
-        let mut search = Search::begin(new, costs);
-        search.rounds(cranes, new, plan, &heads[..], costs);
-        search
+        self.begin(new, costs);
+        self.rounds(cranes, new, plan, &heads[..], costs);
     }
 }
 

@@ -5,15 +5,15 @@ use lib.ListN.{length-set}
 use Rattle.dispatch.proofs.insert.Laws.{taken_self, taken_witnessed}
 use Rattle.dispatch.proofs.insert.find.Goals as goal
 
-pub run-search-requires : goal.run-search-requires
-run-search-requires c = record {
+pub run-requires : goal.run-requires
+run-requires c = record {
   self = taken_self c.args.new c.args.plan.now c.requires.sized.planned;
   sized = record { planned = rw length-set c.requires.sized.planned; costed = c.requires.sized.costed };
   witnessed = taken_witnessed c.requires.witnessed;
 }
 
-pub of-ends-requires : goal.of-ends-requires
-of-ends-requires c = let w = taken_witnessed c.requires.witnessed in
+pub of-requires : goal.of-requires
+of-requires c = let w = taken_witnessed c.requires.witnessed in
     record {
       few = w.few;
       cranes = c.requires.cranes;
@@ -22,5 +22,5 @@ of-ends-requires c = let w = taken_witnessed c.requires.witnessed in
       totals_long = search rules;
       costed = c.requires.sized.costed;
       planned = w.certified.planned;
-      totalled = c.run-search.ensures.totals;
+      totalled = c.run.ensures.totals;
     }

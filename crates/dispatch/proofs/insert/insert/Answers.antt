@@ -68,11 +68,11 @@ end_below c =
 end_within : (c : After-end-end) → c.end-end.result < most_cranes
 end_within c = omega (arith, end_below c, c.requires.cranes)
 
-pub find-requires : goal.find-requires
-find-requires c = record {
+pub find-ends-requires : goal.find-ends-requires
+find-ends-requires c = record {
   cranes = c.requires.cranes;
   stops = c.requires.stops;
-  sized = record { planned = long (goal.at.find-requires c).Start; costed = c.requires.costed };
+  sized = record { planned = long (goal.at.find-ends-requires c).Start; costed = c.requires.costed };
   witnessed = c.requires.witnessed;
 }
 
@@ -82,18 +82,18 @@ end-end-requires c = record {
   cranes = c.requires.cranes;
   few = c.requires.witnessed.few;
   costed = c.requires.costed;
-  low = ends_low c.find.ensures.1;
+  low = ends_low c.find-ends.ensures.1;
 }
 
 pub renew-requires : goal.renew-requires
 renew-requires c = record {
   few = c.requires.witnessed.few;
-  planned = omega (arith, long (goal.at.renew-requires c).Start, c.find.auto.plan);
+  planned = omega (arith, long (goal.at.renew-requires c).Start, c.find-ends.auto.plan);
   totals_long = search rules;
   weighed = omega (arith, c.requires.witnessed.few, c.requires.weights_long);
   costed = c.requires.costed;
-  matched = rw c.find.ensures.0 (matched (goal.at.renew-requires c).Start);
-  totalled = c.find.ensures.1.searched.totals;
+  matched = rw c.find-ends.ensures.0 (matched (goal.at.renew-requires c).Start);
+  totalled = c.find-ends.ensures.1.searched.totals;
 }
 
 pub offset_bounds-ends-end : goal.offset_bounds-ends-end
@@ -105,10 +105,10 @@ bounds-ends-end c = end_within (goal.at.bounds-ends-end c).After-end-end
 pub flip-requires : goal.flip-requires
 flip-requires c = record {
   few = c.requires.witnessed.few;
-  stop = le_of_lt (c.find.ensures.1.freed.stop c.end-end.result (end_below (goal.at.flip-requires c).After-end-end));
-  planned = omega (arith, long (goal.at.flip-requires c).Start, c.find.auto.plan);
-  chains = c.find.ensures.1.searched.nets.chains;
+  stop = le_of_lt (c.find-ends.ensures.1.freed.stop c.end-end.result (end_below (goal.at.flip-requires c).After-end-end));
+  planned = omega (arith, long (goal.at.flip-requires c).Start, c.find-ends.auto.plan);
+  chains = c.find-ends.ensures.1.searched.nets.chains;
 }
 
 pub returns : goal.returns
-returns c = call_inserted c.find.ensures.0 c.find.ensures.1 (end_below (goal.at.returns c).After-end-end) c.end-end.ensures c.flip.ensures c.renew.ensures
+returns c = call_inserted c.find-ends.ensures.0 c.find-ends.ensures.1 (end_below (goal.at.returns c).After-end-end) c.end-end.ensures c.flip.ensures c.renew.ensures

@@ -57,7 +57,7 @@ rounds-requires c = record {
   headed = search rules;
   sized = c.requires.sized;
   ready = heads_ready c.requires.witnessed c.requires.self _ c.heads_of-heads.ensures;
-  begun = c.begin-search.ensures;
+  begun = c.begin.ensures;
 }
 
 pub returns : goal.returns
