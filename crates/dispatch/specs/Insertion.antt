@@ -27,12 +27,11 @@ pub record Freed (k N : ℕ) (f net before net_end : ℕ → ℕ) : Type 0 where
   pub follows : (e : ℕ) → e < k → f (before e) ≡ e
   pub costs : (e : ℕ) → e < k → net_end e ≡ net (before e)
 
--- what the net costs of the ends are given: a plan of N stops, its totals, and room for the ends
-pub record NetsGiven (k N : ℕ) (plan costs totals nets before : List ℕ) : Type 0 where
+-- what the net costs of the ends are given: a plan of N stops and its totals
+pub record NetsGiven (k N : ℕ) (plan costs totals : List ℕ) : Type 0 where
   pub few : N < plan_room
-  pub cranes : k ≤ N
-  pub netted : k ≤ length nets
-  pub freed : k ≤ length before
+  pub cranes : k ≤ most_cranes
+  pub stops : k ≤ N
   pub plan_long : N < length plan
   pub totals_long : N < length totals
   pub costed : Costed costs
@@ -44,9 +43,15 @@ pub record ChoiceGiven (k N : ℕ) (nets costs : List ℕ) : Type 0 where
   pub crane : 0 < k
   pub cranes : k ≤ most_cranes
   pub few : N < plan_room
-  pub netted : k ≤ length nets
   pub costed : Costed costs
   pub low : (e : ℕ) → e < k → at nets e ≤ net_base + most_metres
+
+-- of k ends the first: of the least sum; among equals of the least way; then of the lowest number
+pub record Foremost (k : ℕ) (sum way : ℕ → ℕ) (e : ℕ) : Type 0 where
+  pub below : e < k
+  pub sums : (t : ℕ) → t < k → sum e ≤ sum t
+  pub ways : (t : ℕ) → t < k → sum e ≡ sum t → way e ≤ way t
+  pub number : (t : ℕ) → t < k → sum e ≡ sum t → way e ≡ way t → e ≤ t
 
 -- of the ends below k the one of the least net cost and way from N together; among equals of the least way; then of the lowest
 -- number
@@ -81,11 +86,10 @@ pub record Unmoved (N : ℕ) (plan : List ℕ) (weights : List ℤ) (plan' : Lis
   pub weighed : (b : ℕ) → N < b → weight weights' b ≡ weight weights b
 
 -- what the search for the ends of a call is given: a plan of N stops with weights that vouch for it, and room for the call
-pub record FindGiven (k N : ℕ) (plan : List ℕ) (weights : List ℤ) (costs totals parents ranks nets before : List ℕ) : Type 0 where
-  pub cranes : k ≤ N
-  pub netted : k ≤ length nets
-  pub freed : k ≤ length before
-  pub sized : Sized N plan costs totals parents ranks
+pub record FindGiven (k N : ℕ) (plan : List ℕ) (weights : List ℤ) (costs : List ℕ) : Type 0 where
+  pub cranes : k ≤ most_cranes
+  pub stops : k ≤ N
+  pub sized : Sized N plan costs
   pub witnessed : Witnessed k N plan weights costs
 
 -- what taking in a call is given
@@ -244,11 +248,10 @@ pub record Netted (n : ℕ) (d : ℕ → ℕ → ℕ) (starts calls stands : Lis
       → work d n starts (calls ++ (r ∷ [])) (moved stands r e) + net_base ≡ work d n starts calls stands + net_end e
   pub ways : (e : ℕ) → e < length starts → c (stops starts calls) e ≡ drive d stands r e
 
--- what the net costs of a book's cranes are given: a call that may be quoted, and room for them
-pub record QuoteGiven (book : Book) (t : Table) (r : ℕ) (nets costs : List ℕ) : Type 0 where
+-- what the net costs of a book's cranes are given: a call that may be quoted
+pub record QuoteGiven (book : Book) (t : Table) (r : ℕ) (costs : List ℕ) : Type 0 where
   pub places : ℕ
   pub accepted : quote_refusal book places t r ≡ 0
-  pub netted : most_cranes ≤ length nets
   pub costed : Costed costs
 
 -- the net costs of a book's cranes, and the legs with the call, by which the kept plan costs what it does without it

@@ -26,8 +26,7 @@ unfoldable pub head_of : ℤ → ℕ → ℕ
 head_of y leg = nat_abs (y +ℤ pos lift) - leg
 
 -- what the filling of heads is given: followers in range, weights within theirs, and legs within the limit
-pub record HeadsGiven (N : ℕ) (plan : List ℕ) (weights : List ℤ) (costs heads : List ℕ) : Type 0 where
-  pub headed : N ≤ length heads
+pub record HeadsGiven (N : ℕ) (plan : List ℕ) (weights : List ℤ) (costs : List ℕ) : Type 0 where
   pub weighed : Weighed N plan weights
   pub costed : Costed costs
   pub short : (p b : ℕ) → p < N → b < N → leg_at costs p b ≤ most_metres
@@ -35,14 +34,6 @@ pub record HeadsGiven (N : ℕ) (plan : List ℕ) (weights : List ℤ) (costs he
 -- where the stops end that b may follow, of the stops below N
 unfoldable pub reach : ℕ → ℕ → ℕ → ℕ
 reach k N b = cond (ltb b k) N b
-
--- what the beginning of the search is given: the table of the legs, and room
-pub record BeginGiven (N : ℕ) (costs totals parents ranks : List ℕ) : Type 0 where
-  pub few : N < plan_room
-  pub costed : Costed costs
-  pub totalled : N < length totals
-  pub parented : N < length parents
-  pub ranked : N < length ranks
 
 -- at first every stop takes the new call, which is settled
 pub record Begun (N : ℕ) (row total parent rank : ℕ → ℕ) : Type 0 where
@@ -80,14 +71,12 @@ pub record Relaxed (limit net from : ℕ) (row total parent total' parent' : ℕ
   pub each : (p : ℕ) → Unbettered limit net row total parent total' parent' p ⊎ Bettered limit net from row total total' parent' p
 
 -- what a settled stop's row of work is given: the stop q, whose total holds the leg to its follower
-pub record SettleGiven (N : ℕ) (plan costs : List ℕ) (q : ℕ) (totals parents : List ℕ) : Type 0 where
+pub record SettleGiven (N : ℕ) (plan costs : List ℕ) (q : ℕ) (totals : List ℕ) : Type 0 where
   pub few : N < plan_room
   pub stop : q < N
   pub follows : follower plan q < N
   pub planned : N < length plan
   pub costed : Costed costs
-  pub totalled : N ≤ length totals
-  pub parented : N ≤ length parents
   pub leg : leg_at costs q (follower plan q) ≤ at totals q
   pub most : at totals q ≤ net_base + most_metres
 
@@ -101,19 +90,14 @@ pub record Ready (k N : ℕ) (f : ℕ → ℕ) (c : ℕ → ℕ → ℕ) (head :
   pub vouched : (p q : ℕ) → p < N → q < N → (f q < k) ⊎ (p < f q) → head q + c q (f q) ≤ head p + c p (f q)
 
 -- the lists of a search are long enough
-pub record Sized (N : ℕ) (plan costs totals parents ranks : List ℕ) : Type 0 where
+pub record Sized (N : ℕ) (plan costs : List ℕ) : Type 0 where
   pub planned : N < length plan
   pub costed : Costed costs
-  pub totalled : N < length totals
-  pub parented : N < length parents
-  pub ranked : N < length ranks
 
--- what the rounds are given: at first every stop below N is open, in its place of the list, and takes the new call
-pub record RoundsGiven (k N : ℕ) (plan heads costs stops totals parents ranks : List ℕ) : Type 0 where
+-- what the rounds are given: at first every stop below N is open, and takes the new call
+pub record RoundsGiven (k N : ℕ) (plan heads costs totals parents ranks : List ℕ) : Type 0 where
   pub headed : N ≤ length heads
-  pub listed : N ≤ length stops
-  pub opened : (p : ℕ) → p < N → at stops p ≡ p
-  pub sized : Sized N plan costs totals parents ranks
+  pub sized : Sized N plan costs
   pub ready : Ready k N (follower plan) (leg_at costs) (at heads)
   pub begun : Begun N (λ p. leg_at costs p N) (at totals) (at parents) (at ranks)
 
@@ -131,9 +115,9 @@ pub record Witnessed (k N : ℕ) (plan : List ℕ) (weights : List ℤ) (costs :
   pub short : (p b : ℕ) → p ≤ N → b ≤ N → leg_at costs p b ≤ most_metres
 
 -- what the search is given: the new call is followed by itself for the moment
-pub record SearchGiven (k N : ℕ) (plan : List ℕ) (weights : List ℤ) (costs totals parents ranks : List ℕ) : Type 0 where
+pub record SearchGiven (k N : ℕ) (plan : List ℕ) (weights : List ℤ) (costs : List ℕ) : Type 0 where
   pub self : follower plan N ≡ N
-  pub sized : Sized N plan costs totals parents ranks
+  pub sized : Sized N plan costs
   pub witnessed : Witnessed k N plan weights costs
 
 -- a stop's total is its net cost and the leg to its follower
@@ -157,9 +141,8 @@ pub record Matched (N : ℕ) (f : ℕ → ℕ) : Type 0 where
 
 -- what the flip is given: a stop t whose chain of parents ends at the new call
 pub record FlipGiven (N t : ℕ) (parents ranks plan : List ℕ) : Type 0 where
+  pub few : N < plan_room
   pub stop : t ≤ N
-  pub parented : N < length parents
-  pub ranked : N < length ranks
   pub planned : N < length plan
   pub chains : Chains N (at parents) (at ranks)
 

@@ -6,8 +6,9 @@ ghost use Rattle.dispatch.specs.Legs.{leg_at};
 ghost use Rattle.dispatch.specs.Search.{at};
 ghost use Rattle.dispatch.specs.Insertion.{ChoiceGiven, least_end, picked, Found, FindGiven, InsertGiven, CallInserted};
 
-use crate::{choice, flip, legs, search, weights};
-use book::Book;
+use crate::choice::Ends;
+use crate::search::Search;
+use crate::{flip, weights};
 
 // The end for which a call is taken in: the least one, or a given one.
 #[derive(Clone, Copy)]
@@ -16,37 +17,32 @@ pub(crate) enum Pick {
     End(usize),
 }
 
-// The search for the net costs of the call of the number `new`, which is followed by itself for the moment; and of each end the
-// stop that it follows and the net cost of freeing it.
+// The search for the net costs of the call of the number `new`, which is followed by itself for the moment; and the ends, by it.
 pub(crate) fn find(
     cranes: usize,
     new: usize,
     costs: &[u32],
     weights: &[i64],
     plan: &mut [u16],
-    totals: &mut [u64],
-    parents: &mut [usize],
-    ranks: &mut [usize],
-    nets: &mut [u64],
-    before: &mut [usize],
-)
-    requires { FindGiven cranes new plan.old weights.now costs.now totals.old parents.old ranks.old nets.old before.old }
-    ensures { (plan.new ≡ set plan.old new new) × Found cranes new (follower plan.new) (leg_at costs.now) (at totals.new) (at parents.new) (at ranks.new) (at before.new) (at nets.new) }
+    search: &mut Search,
+) -> Ends
+    requires { FindGiven cranes new plan.old weights.now costs.now }
+    ensures { (plan.new ≡ set plan.old new new) × Found cranes new (follower plan.new) (leg_at costs.now) (at search.new.totals) (at search.new.parents) (at search.new.ranks) (at result.before) (at result.nets) }
 {
     plan[new] = new as u16;
     // Step 1: the search for an augmenting path to every stop.
-    search::search(cranes, new, plan, weights, costs, totals, parents, ranks);
+    search.run(cranes, new, plan, weights, costs);
     // Step 2: the net cost of every end.
-    choice::fill_nets(cranes, new, plan, costs, totals, nets, before);
+    Ends::of(cranes, new, plan, costs, &search.totals[..])
 }
 
 // The end that is picked.
-fn end(pick: Pick, cranes: usize, new: usize, nets: &[u64], costs: &[u32]) -> usize
-    requires { ChoiceGiven cranes new nets.now costs.now }
-    ensures { result ≡ picked pick (least_end cranes new (at nets.now) (leg_at costs.now)) }
+fn end(pick: Pick, cranes: usize, new: usize, ends: &Ends, costs: &[u32]) -> usize
+    requires { ChoiceGiven cranes new ends.now.nets costs.now }
+    ensures { result ≡ picked pick (least_end cranes new (at ends.now.nets) (leg_at costs.now)) }
 {
     let Pick::End(end) = pick else {
-        return choice::choose(cranes, new, nets, costs);
+        return ends.choose(cranes, new, costs);
     };
     end
 }
@@ -63,27 +59,12 @@ pub(crate) fn insert(
     requires { InsertGiven cranes new pick plan.old weights.old costs.now }
     ensures { CallInserted cranes new pick costs.now plan.old weights.old result plan.new weights.new }
 {
-    let mut totals = [0; legs::ROOM];
-    let mut parents = [0; legs::ROOM];
-    let mut ranks = [0; legs::ROOM];
-    let mut nets = [0; Book::CRANES];
-    let mut before = [0; Book::CRANES];
-    find(
-        cranes,
-        new,
-        costs,
-        weights,
-        plan,
-        &mut totals[..],
-        &mut parents[..],
-        &mut ranks[..],
-        &mut nets[..],
-        &mut before[..],
-    );
+    let mut search = Search::new();
+    let ends = find(cranes, new, costs, weights, plan, &mut search);
     // Step 3: the end of the smallest sum, or the one given.
-    let end = end(pick, cranes, new, &nets[..], costs);
+    let end = end(pick, cranes, new, &ends, costs);
     // Step 4: the new weights, and the plan flipped along the path to that end.
-    weights::renew(new, plan, &totals[..], costs, weights);
-    flip::flip(new, before[end], &parents[..], &ranks[..], plan);
+    weights::renew(new, plan, &search.totals[..], costs, weights);
+    flip::flip(new, ends.before[end], &search, plan);
     end
 }

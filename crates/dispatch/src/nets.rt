@@ -6,36 +6,24 @@ ghost use Rattle.dispatch.specs.NetCosts.{net_list, nets_by_crane};
 ghost use Rattle.dispatch.specs.Quote.{quote_refusal};
 ghost use Rattle.dispatch.specs.Search.{at, net_base};
 
+use crate::choice::Ends;
+use crate::search::Search;
 use crate::{insert, legs, search};
 use book::Book;
 
 // Of each crane the net cost of freeing it for a call at `place`; and the table of the legs with the call in it.
-pub(crate) fn of_book(book: Book, table: &[u32], place: u16, nets: &mut [u64], costs: &mut [u32])
-    requires { QuoteGiven book table.now place nets.old costs.old }
-    ensures { (n : ℕ) → quote_refusal book n table.now place ≡ 0 → BookNetted book n table.now place nets.new costs.new }
+pub(crate) fn of_book(book: Book, table: &[u32], place: u16, costs: &mut [u32]) -> Ends
+    requires { QuoteGiven book table.now place costs.old }
+    ensures { (n : ℕ) → quote_refusal book n table.now place ≡ 0 → BookNetted book n table.now place result.nets costs.new }
 {
     let cranes = book.cranes;
     let new = cranes + book.calls;
     let weights = book.weights;
     let mut plan = book.plan;
-    let mut totals = [0; legs::ROOM];
-    let mut parents = [0; legs::ROOM];
-    let mut ranks = [0; legs::ROOM];
-    let mut before = [0; Book::CRANES];
     legs::of_book(book, table, costs);
     legs::extend(table, new, place, costs);
-    insert::find(
-        cranes,
-        new,
-        costs,
-        &weights[..],
-        &mut plan[..],
-        &mut totals[..],
-        &mut parents[..],
-        &mut ranks[..],
-        nets,
-        &mut before[..],
-    );
+    let mut search = Search::new();
+    insert::find(cranes, new, costs, &weights[..], &mut plan[..], &mut search)
 }
 
 // The signed net costs of the cranes, from those that the search counts from its base.
@@ -43,10 +31,8 @@ fn lower(cranes: usize, nets: &[u64], list: &mut [i64])
     requires { LowerGiven cranes nets.now list.old }
     ensures { list.new ≡ up_to cranes (λ e. pos (at nets.now e) -ℤ pos net_base) ++ drop cranes list.old }
 {
-    let mut e = 0;
-    while e < cranes {
+    for e in 0..cranes {
         list[e] = search::lowered(nets[e]);
-        e += 1;
     }
 }
 
@@ -56,9 +42,8 @@ pub(crate) fn accepted(book: Book, table: &[u32], place: u16) -> [i64; Book::CRA
     ensures { (n : ℕ) → quote_refusal book n table.now place ≡ 0 → net_list (Ok result) ≡ record { number = 0; nets = nets_by_crane book n table.now place } }
 {
     let mut costs = legs::zeros();
-    let mut nets = [0; Book::CRANES];
     let mut list = [0; Book::CRANES];
-    of_book(book, table, place, &mut nets[..], &mut costs[..]);
-    lower(book.cranes, &nets[..], &mut list[..]);
+    let ends = of_book(book, table, place, &mut costs[..]);
+    lower(book.cranes, &ends.nets[..], &mut list[..]);
     list
 }

@@ -3,7 +3,7 @@ ghost use Rattle.std.specs.Prelude.{◌≡◌, ℕ, Ok};
 ghost use Rattle.base.specs.Numbers.{number_of};
 ghost use Rattle.dispatch.specs.Quote.{quote_refusal, quoted, figures_of};
 
-use crate::{Quote, call, choice, legs, nets, plan, search};
+use crate::{Quote, call, legs, nets, plan, search};
 use base::Refusal;
 use book::Book;
 
@@ -25,15 +25,14 @@ pub(crate) fn accepted(book: Book, table: &[u32], place: u16) -> Quote
     let new = book.cranes + book.calls;
     let plan = book.plan;
     let mut costs = legs::zeros();
-    let mut nets = [0; Book::CRANES];
     // Steps 1 and 2 of section 3 of source document 000: the net cost of every crane.
-    nets::of_book(book, table, place, &mut nets[..], &mut costs[..]);
+    let ends = nets::of_book(book, table, place, &mut costs[..]);
     // Step 3: the smallest sum of net cost and drive.
-    let crane = choice::choose(book.cranes, new, &nets[..], &costs[..]);
+    let crane = ends.choose(book.cranes, new, &costs[..]);
     let least = plan::cost(new, &plan[..], &costs[..]);
     Quote {
         crane,
         metres: legs::cost(&costs[..], new, crane),
-        least: least + nets[crane] - search::BASE,
+        least: least + ends.nets[crane] - search::BASE,
     }
 }

@@ -1,9 +1,9 @@
 // The search for net costs: Dijkstra's, by the weights, from the new call. It reads leg costs and knows no places.
-ghost use Rattle.std.specs.Prelude.{true, ◌≡◌, ℕ, ◌+◌, ◌-◌, ◌<◌, ◌≤◌, pos, ◌-ℤ◌, length};
+ghost use Rattle.std.specs.Prelude.{true, ◌≡◌, ℕ, ◌+◌, ◌-◌, ◌<◌, ◌≤◌, pos, ◌-ℤ◌, length, MatchOption};
 ghost use Rattle.road.specs.Table.{most_metres};
 ghost use Rattle.book.specs.Book.{follower, weight, weight_rule};
-ghost use Rattle.dispatch.specs.Legs.{leg_at};
-ghost use Rattle.dispatch.specs.Search.{at, net_base, head_of, HeadsGiven, reach, BeginGiven, Begun, Keyed, Nearest, Relaxed, SettleGiven, RoundsGiven, SearchGiven, Searched};
+ghost use Rattle.dispatch.specs.Legs.{plan_room, leg_at, Costed};
+ghost use Rattle.dispatch.specs.Search.{at, net_base, head_of, HeadsGiven, reach, Begun, Keyed, Nearest, Relaxed, SettleGiven, RoundsGiven, SearchGiven, Searched};
 
 use crate::{legs, plan};
 
@@ -13,11 +13,8 @@ pub(crate) const BASE: u64 = 1_099_511_627_776;
 // Weights are raised by this, so that none is below a leg.
 const LIFT: i64 = 1_099_512_676_352;
 
-// The rank of a stop that is not settled.
+// The rank of a stop that is not settled: a number and no `None`, since the theorem of the chains (`Chains`) compares ranks as numbers.
 const OPEN: usize = legs::ROOM;
-
-// Above every key.
-const FAR: u64 = 9_223_372_036_854_775_808;
 
 // The head of a stop: the weight of its follower, raised, less the leg to it.
 fn head(y: i64, leg: u32) -> u64
@@ -28,67 +25,27 @@ fn head(y: i64, leg: u32) -> u64
 }
 
 // The heads of the stops below `new`.
-fn fill_heads(new: usize, plan: &[u16], weights: &[i64], costs: &[u32], heads: &mut [u64])
-    requires { HeadsGiven new plan.now weights.now costs.now heads.old }
-    ensures { (p : ℕ) → p < new → at heads.new p ≡ head_of (weight weights.now (follower plan.now p)) (leg_at costs.now p (follower plan.now p)) }
+fn heads_of(new: usize, plan: &[u16], weights: &[i64], costs: &[u32]) -> [u64; legs::ROOM]
+    requires { HeadsGiven new plan.now weights.now costs.now }
+    ensures { (p : ℕ) → p < new → at result p ≡ head_of (weight weights.now (follower plan.now p)) (leg_at costs.now p (follower plan.now p)) }
 {
-    let mut p = 0;
-    while p < new {
+    let mut heads = [0; legs::ROOM];
+    for p in 0..new {
         let b = plan[p] as usize;
         heads[p] = head(weights[b], legs::cost(costs, p, b));
-        p += 1;
     }
+    heads
 }
 
-// At first every stop may take the new call; the new call itself is settled.
-fn begin(new: usize, costs: &[u32], totals: &mut [u64], parents: &mut [usize], ranks: &mut [usize])
-    requires { BeginGiven new costs.now totals.old parents.old ranks.old }
-    ensures { Begun new (λ p. leg_at costs.now p new) (at totals.new) (at parents.new) (at ranks.new) }
+// Where in a list of open stops the first one of least key stands.
+fn pick(stops: &[u16], heads: &[u64], totals: &[u64]) -> Option<usize>
+    requires { Keyed stops.now heads.now totals.now }
+    ensures { MatchOption result (length stops.now ≡ 0) (λ i. Nearest (length stops.now) (at stops.now) (at heads.now) (at totals.now) i) }
 {
-    let mut p = 0;
-    while p <= new {
-        totals[p] = BASE + legs::cost(costs, p, new) as u64;
-        parents[p] = new;
-        ranks[p] = OPEN;
-        p += 1;
-    }
-    ranks[new] = 0;
-}
-
-// Where in a list of open stops one of least key stands.
-fn pick(stops: &[u16], heads: &[u64], totals: &[u64]) -> usize
-    requires { (0 < length stops.now) × Keyed stops.now heads.now totals.now }
-    ensures { Nearest (length stops.now) (at stops.now) (at heads.now) (at totals.now) result }
-{
-    let mut best = 0;
-    let mut least = FAR;
-    let mut i = 0;
-    while i < stops.len() {
-        let p = stops[i] as usize;
-        let key = totals[p] + heads[p];
-        if key < least {
-            best = i;
-            least = key;
-        }
-        i += 1;
-    }
-    best
-}
-
-// One row of work: each stop of the row takes the way over the stop `from`, of net cost `net`, where that is cheaper.
-fn relax(row: &[u32], net: u64, from: usize, totals: &mut [u64], parents: &mut [usize])
-    requires { (length row.now ≤ length totals.old) × ((length row.now ≤ length parents.old) × (net ≤ 4398046511104)) }
-    ensures { Relaxed (length row.now) net from (at row.now) (at totals.old) (at parents.old) (at totals.new) (at parents.new) }
-{
-    let mut p = 0;
-    while p < row.len() {
-        let total = net + row[p] as u64;
-        if total < totals[p] {
-            totals[p] = total;
-            parents[p] = from;
-        }
-        p += 1;
-    }
+    (0..stops.len()).min_by_key(|i| {
+        let p = stops[*i] as usize;
+        totals[p] + heads[p]
+    })
 }
 
 // Where the stops end that b may follow, of the stops below `new`.
@@ -101,82 +58,98 @@ fn limit(cranes: usize, new: usize, b: usize) -> usize
     b
 }
 
-// Settles stop q: one row of work, over its follower.
-fn settle(
-    cranes: usize,
-    new: usize,
-    plan: &[u16],
-    costs: &[u32],
-    q: usize,
-    totals: &mut [u64],
-    parents: &mut [usize],
-)
-    requires { SettleGiven new plan.now costs.now q totals.old parents.old }
-    ensures { Relaxed (reach cranes new (follower plan.now q)) (at totals.old q - leg_at costs.now q (follower plan.now q)) q (λ p. leg_at costs.now p (follower plan.now q)) (at totals.old) (at parents.old) (at totals.new) (at parents.new) }
-{
-    let b = plan[q] as usize;
-    let net = totals[q] - legs::cost(costs, q, b) as u64;
-    let row = legs::row_to(costs, b, limit(cranes, new, b));
-    relax(row, net, q, totals, parents);
+// What a search knows of each stop, by its number: its total, the net cost of freeing its follower and the leg to it; its parent, the
+// stop that the follower goes to; and its rank, the round in which it is settled.
+#[derive(Drop)]
+pub(crate) struct Search {
+    pub totals: [u64; legs::ROOM],
+    pub parents: [usize; legs::ROOM],
+    pub ranks: [usize; legs::ROOM],
 }
 
-// Settles the stops below `new`, each in its turn the open one of least key; the last one of the list takes its place.
-fn rounds(
-    cranes: usize,
-    new: usize,
-    plan: &[u16],
-    heads: &[u64],
-    costs: &[u32],
-    stops: &mut [u16],
-    totals: &mut [u64],
-    parents: &mut [usize],
-    ranks: &mut [usize],
-)
-    requires { RoundsGiven cranes new plan.now heads.now costs.now stops.old totals.old parents.old ranks.old }
-    ensures { Searched cranes new (follower plan.now) (leg_at costs.now) (at totals.new) (at parents.new) (at ranks.new) }
-{
-    let mut rank = 1;
-    while rank <= new {
-        let left = new - rank;
-        let i = pick(&stops[..left + 1], heads, totals);
-        let q = stops[i] as usize;
-        stops[i] = stops[left];
-        ranks[q] = rank;
-        settle(cranes, new, plan, costs, q, totals, parents);
-        rank += 1;
+impl Search {
+    // One of which nothing is known yet.
+    pub(crate) fn new() -> Self {
+        Search {
+            totals: [0; legs::ROOM],
+            parents: [0; legs::ROOM],
+            ranks: [0; legs::ROOM],
+        }
     }
-}
 
-// The net costs of the stops of a plan whose weights vouch for it, for one more call, of the number `new`, which is followed by
-// itself for the moment.
-pub(crate) fn search(
-    cranes: usize,
-    new: usize,
-    plan: &[u16],
-    weights: &[i64],
-    costs: &[u32],
-    totals: &mut [u64],
-    parents: &mut [usize],
-    ranks: &mut [usize],
-)
-    requires { SearchGiven cranes new plan.now weights.now costs.now totals.old parents.old ranks.old }
-    ensures { Searched cranes new (follower plan.now) (leg_at costs.now) (at totals.new) (at parents.new) (at ranks.new) }
-{
-    let mut heads = [0; legs::ROOM];
-    fill_heads(new, plan, weights, costs, &mut heads[..]);
-    let mut stops = plan::own(new);
-    begin(new, costs, totals, parents, ranks);
-    rounds(
-        cranes,
-        new,
-        plan,
-        &heads[..],
-        costs,
-        &mut stops[..],
-        totals,
-        parents,
-        ranks,
-    );
+    // At first every stop may take the new call; the new call itself is settled.
+    fn begin(&mut self, new: usize, costs: &[u32])
+        requires { (new < plan_room) × Costed costs.now }
+        ensures { Begun new (λ p. leg_at costs.now p new) (at self.new.totals) (at self.new.parents) (at self.new.ranks) }
+    {
+        for (p, leg) in legs::row_to(costs, new, new + 1).iter().enumerate() {
+            self.totals[p] = BASE + *leg as u64;
+            self.parents[p] = new;
+            self.ranks[p] = OPEN;
+        }
+        self.ranks[new] = 0;
+    }
+
+    // One row of work: each stop of the row takes the way over the stop `from`, of net cost `net`, where that is cheaper.
+    fn relax(&mut self, row: &[u32], net: u64, from: usize)
+        requires { (length row.now ≤ plan_room) × (net ≤ 4398046511104) }
+        ensures { (self.new.ranks ≡ self.old.ranks) × Relaxed (length row.now) net from (at row.now) (at self.old.totals) (at self.old.parents) (at self.new.totals) (at self.new.parents) }
+    {
+        for (p, leg) in row.iter().enumerate() {
+            let total = net + *leg as u64;
+            if total < self.totals[p] {
+                self.totals[p] = total;
+                self.parents[p] = from;
+            }
+        }
+    }
+
+    // Settles stop q: one row of work, over its follower.
+    fn settle(&mut self, cranes: usize, new: usize, plan: &[u16], costs: &[u32], q: usize)
+        requires { SettleGiven new plan.now costs.now q self.old.totals }
+        ensures { (self.new.ranks ≡ self.old.ranks) × Relaxed (reach cranes new (follower plan.now q)) (at self.old.totals q - leg_at costs.now q (follower plan.now q)) q (λ p. leg_at costs.now p (follower plan.now q)) (at self.old.totals) (at self.old.parents) (at self.new.totals) (at self.new.parents) }
+    {
+        let b = plan[q] as usize;
+        let net = self.totals[q] - legs::cost(costs, q, b) as u64;
+        let row = legs::row_to(costs, b, limit(cranes, new, b));
+        self.relax(row, net, q);
+    }
+
+    // Settles the stops below `new`, each in its turn the open one of least key; the last one of the list takes its place.
+    fn rounds(&mut self, cranes: usize, new: usize, plan: &[u16], heads: &[u64], costs: &[u32])
+        requires { RoundsGiven cranes new plan.now heads.now costs.now self.old.totals self.old.parents self.old.ranks }
+        ensures { Searched cranes new (follower plan.now) (leg_at costs.now) (at self.new.totals) (at self.new.parents) (at self.new.ranks) }
+    {
+        let mut stops = plan::own(new);
+        for rank in 1..=new {
+            let left = new - rank;
+            let Some(i) = pick(&stops[..=left], heads, &self.totals[..]) else {
+                return;
+            };
+            let q = stops[i] as usize;
+            stops[i] = stops[left];
+            self.ranks[q] = rank;
+            self.settle(cranes, new, plan, costs, q);
+        }
+    }
+
+    // The net costs of the stops of a plan whose weights vouch for it, for one more call, of the number `new`, which is followed by
+    // itself for the moment.
+    pub(crate) fn run(
+        &mut self,
+        cranes: usize,
+        new: usize,
+        plan: &[u16],
+        weights: &[i64],
+        costs: &[u32],
+    )
+        requires { SearchGiven cranes new plan.now weights.now costs.now }
+        ensures { Searched cranes new (follower plan.now) (leg_at costs.now) (at self.new.totals) (at self.new.parents) (at self.new.ranks) }
+    {
+        let heads = heads_of(new, plan, weights, costs);
+        self.begin(new, costs);
+        self.rounds(cranes, new, plan, &heads[..], costs);
+    }
 }
 
 // A net cost counted from the base, as the signed number that it is.

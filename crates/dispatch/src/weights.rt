@@ -11,12 +11,10 @@ pub(crate) fn renew(new: usize, plan: &[u16], totals: &[u64], costs: &[u32], wei
     requires { RenewGiven new plan.now totals.now costs.now weights.old }
     ensures { Reweighed new (follower plan.now) (net_of (follower plan.now) (leg_at costs.now) (at totals.now)) (weight weights.old) (weight weights.new) }
 {
-    let mut p = 0;
-    while p <= new {
+    for p in 0..=new {
         let b = plan[p] as usize;
         let net = search::net_cost(totals[p], legs::cost(costs, p, b));
         weights[b] = -net;
-        p += 1;
     }
 }
 

@@ -10,14 +10,14 @@ use Rattle.dispatch.proofs.flip.flip.Invariants.{walk_begun, walk_on, walk_turne
 use Rattle.dispatch.proofs.flip.flip.Goals as goal
 use Rattle.dispatch.proofs.flip.flip.Goals.{In-loop-here}
 
-chains : (c : In-loop-here) → Chains c.args.new (at c.args.parents.now) (at c.args.ranks.now)
+chains : (c : In-loop-here) → Chains c.args.new (at c.args.search.now.parents) (at c.args.search.now.ranks)
 chains c = c.requires.chains
 
 below_new : (c : In-loop-here) → c.loop-here.here < c.args.new
 below_new c = walk_on _ _ _ _ _ (chains c) c.loop-here.invariant c.loop-here-test.true
 
 -- the parent's entry is read and written
-parent_planned : (c : In-loop-here) → at c.args.parents.now c.loop-here.here < length c.loop-here.plan
+parent_planned : (c : In-loop-here) → at c.args.search.now.parents c.loop-here.here < length c.loop-here.plan
 parent_planned c =
     omega (arith, (chains c).below c.loop-here.here (below_new c), c.requires.planned, c.loop-here.invariant.planned)
 
@@ -26,6 +26,12 @@ here_planned c = omega (arith, below_new c, c.requires.planned, c.loop-here.inva
 
 pub loop-here-init : goal.loop-here-init
 loop-here-init c = walk_begun _ _ _ _ _ c.requires.stop
+
+pub offset_bounds-search-here : goal.offset_bounds-search-here
+offset_bounds-search-here c = omega (arith, c.loop-here.invariant.walk.on, c.requires.few)
+
+pub bounds-search-here : goal.bounds-search-here
+bounds-search-here c = omega (arith, c.loop-here.invariant.walk.on, c.requires.few)
 
 pub offset_bounds-plan-parent : goal.offset_bounds-plan-parent
 offset_bounds-plan-parent c = let on = parent_planned (goal.at.offset_bounds-plan-parent c).In-loop-here in search rules

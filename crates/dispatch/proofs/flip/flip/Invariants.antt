@@ -53,7 +53,7 @@ module _ (new stop : ℕ) (parents ranks plan₀ : List ℕ) where
         flip_ended (subst (λ (v : ℕ). Flipping new (at plan₀) (at parents) (at ranks) stop v (at plan)) (walk_new e) w.walk)
 
 abbrev pub invariant-loop-here : goal.invariant-loop-here
-invariant-loop-here l = Walking l.new l.stop l.parents l.ranks l.initial.plan l.plan l.here
+invariant-loop-here l = Walking l.new l.stop l.search.parents l.search.ranks l.initial.plan l.plan l.here
 
 abbrev pub decreases-loop-here : goal.decreases-loop-here
-decreases-loop-here l = at l.ranks l.here
+decreases-loop-here l = at l.search.ranks l.here

@@ -68,12 +68,11 @@ end_below c =
 end_within : (c : After-end-end) → c.end-end.result < most_cranes
 end_within c = omega (arith, end_below c, c.requires.cranes)
 
-pub find-requires : goal.find-requires
-find-requires c = record {
-  cranes = c.requires.stops;
-  netted = c.requires.cranes;
-  freed = c.requires.cranes;
-  sized = record { planned = long (goal.at.find-requires c).Start; costed = c.requires.costed; totalled = c.requires.witnessed.few; parented = c.requires.witnessed.few; ranked = c.requires.witnessed.few };
+pub find-ends-requires : goal.find-ends-requires
+find-ends-requires c = record {
+  cranes = c.requires.cranes;
+  stops = c.requires.stops;
+  sized = record { planned = long (goal.at.find-ends-requires c).Start; costed = c.requires.costed };
   witnessed = c.requires.witnessed;
 }
 
@@ -82,36 +81,34 @@ end-end-requires c = record {
   crane = c.requires.crane;
   cranes = c.requires.cranes;
   few = c.requires.witnessed.few;
-  netted = search rules;
   costed = c.requires.costed;
-  low = ends_low c.find.ensures.1;
+  low = ends_low c.find-ends.ensures.1;
 }
 
 pub renew-requires : goal.renew-requires
 renew-requires c = record {
   few = c.requires.witnessed.few;
-  planned = omega (arith, long (goal.at.renew-requires c).Start, c.find.auto.plan);
+  planned = omega (arith, long (goal.at.renew-requires c).Start, c.find-ends.auto.plan);
   totals_long = search rules;
   weighed = omega (arith, c.requires.witnessed.few, c.requires.weights_long);
   costed = c.requires.costed;
-  matched = rw c.find.ensures.0 (matched (goal.at.renew-requires c).Start);
-  totalled = c.find.ensures.1.searched.totals;
+  matched = rw c.find-ends.ensures.0 (matched (goal.at.renew-requires c).Start);
+  totalled = c.find-ends.ensures.1.searched.totals;
 }
 
-pub offset_bounds-before-end : goal.offset_bounds-before-end
-offset_bounds-before-end c = omega (arith, end_within (goal.at.offset_bounds-before-end c).After-end-end)
+pub offset_bounds-ends-end : goal.offset_bounds-ends-end
+offset_bounds-ends-end c = omega (arith, end_within (goal.at.offset_bounds-ends-end c).After-end-end)
 
-pub bounds-before-end : goal.bounds-before-end
-bounds-before-end c = end_within (goal.at.bounds-before-end c).After-end-end
+pub bounds-ends-end : goal.bounds-ends-end
+bounds-ends-end c = end_within (goal.at.bounds-ends-end c).After-end-end
 
 pub flip-requires : goal.flip-requires
 flip-requires c = record {
-  stop = le_of_lt (c.find.ensures.1.freed.stop c.end-end.result (end_below (goal.at.flip-requires c).After-end-end));
-  parented = omega (arith, c.find.auto.parents);
-  ranked = omega (arith, c.find.auto.ranks);
-  planned = omega (arith, long (goal.at.flip-requires c).Start, c.find.auto.plan);
-  chains = c.find.ensures.1.searched.nets.chains;
+  few = c.requires.witnessed.few;
+  stop = le_of_lt (c.find-ends.ensures.1.freed.stop c.end-end.result (end_below (goal.at.flip-requires c).After-end-end));
+  planned = omega (arith, long (goal.at.flip-requires c).Start, c.find-ends.auto.plan);
+  chains = c.find-ends.ensures.1.searched.nets.chains;
 }
 
 pub returns : goal.returns
-returns c = call_inserted c.find.ensures.0 c.find.ensures.1 (end_below (goal.at.returns c).After-end-end) c.end-end.ensures c.flip.ensures c.renew.ensures
+returns c = call_inserted c.find-ends.ensures.0 c.find-ends.ensures.1 (end_below (goal.at.returns c).After-end-end) c.end-end.ensures c.flip.ensures c.renew.ensures

@@ -15,17 +15,17 @@ called c = quote_called c.requires.1
 arrays : (c : Start) → BookArrays c.args.book
 arrays c = record { starts = search rules; stands = search rules; requests = search rules; driven = search rules }
 
-pub of_book-requires : goal.of_book-requires
-of_book-requires c = record { places = c.requires.0; accepted = c.requires.1; netted = search rules; costed = c.zeros-costs.ensures }
+pub of_book-ends-requires : goal.of_book-ends-requires
+of_book-ends-requires c = record { places = c.requires.0; accepted = c.requires.1; costed = c.zeros-costs.ensures }
 
 pub lower-requires : goal.lower-requires
 lower-requires c = let k = (called (goal.at.lower-requires c).Start).sound.counts in
     record {
-      netted = omega (arith, c.of_book.auto, k.cranes);
+      netted = omega (arith, k.cranes);
       listed = omega (arith, k.cranes);
-      low = (c.of_book.ensures _ c.requires.1).low;
+      low = (c.of_book-ends.ensures _ c.requires.1).low;
     }
 
 pub returns : goal.returns
 returns c = λ n h.
-    nets-told (arrays (goal.at.returns c).Start) (quote_called h) (c.of_book.ensures n h) c.lower.ensures refl
+    nets-told (arrays (goal.at.returns c).Start) (quote_called h) (c.of_book-ends.ensures n h) c.lower.ensures refl

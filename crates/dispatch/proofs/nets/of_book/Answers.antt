@@ -78,15 +78,11 @@ find-requires c = let k = (called (goal.at.find-requires c).Start).sound.counts 
     (call_last (arrays (goal.at.find-requires c).Start) (called (goal.at.find-requires c).Start) c.extend.ensures)
     in
     record {
-      cranes = omega arith;
-      netted = omega (arith, c.requires.netted);
-      freed = omega (arith, k.cranes);
+      cranes = k.cranes;
+      stops = omega arith;
       sized = record {
         planned = omega (arith, plan_long (goal.at.find-requires c).Start, (called (goal.at.find-requires c).Start).space);
         costed = c.extend.ensures.costed;
-        totalled = omega (arith, (called (goal.at.find-requires c).Start).space);
-        parented = omega (arith, (called (goal.at.find-requires c).Start).space);
-        ranked = omega (arith, (called (goal.at.find-requires c).Start).space);
       };
       witnessed = rw (starts-long (fits (goal.at.find-requires c).Start), requests_long (fits (goal.at.find-requires c).Start)) at w;
     }

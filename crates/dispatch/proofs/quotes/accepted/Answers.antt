@@ -42,7 +42,7 @@ sent_low c =
     omega (arith, sent c, (called_here).sound.counts.cranes)
 
 -- the cost of the kept plan and the crane's net cost
-summed : (c : After-cost) → let sum = plan_cost (stops_of c.args.book) (leg_at c.of_book.new.costs) (follower c.args.book.plan) + at c.of_book.new.nets c.choose-crane.result in
+summed : (c : After-cost) → let sum = plan_cost (stops_of c.args.book) (leg_at c.of_book-ends.new.costs) (follower c.args.book.plan) + at c.of_book-ends.result.nets c.choose-crane.result in
     (net_base ≤ sum) × (sum ≤ net_base + (most_stops + 1) * most_metres)
 summed c =
     let called_here : Called c.args.book c.requires.0 c.args.table.now c.args.place = quote_called c.requires.1
@@ -51,13 +51,13 @@ summed c =
     in
     let sent_here : c.choose-crane.result < c.args.book.cranes = subst (λ (x : ℕ). x < c.args.book.cranes) (sym c.choose-crane.ensures) (preferred_below _ c.args.book.cranes (called_here).sound.counts.crane)
     in
-    sum-within (arrays_here) (called_here) (c.of_book.ensures _ c.requires.1) c.choose-crane.result (sent_here)
+    sum-within (arrays_here) (called_here) (c.of_book-ends.ensures _ c.requires.1) c.choose-crane.result (sent_here)
 
 pub overflow_add-new : goal.overflow_add-new
 overflow_add-new c = let k = (called (goal.at.overflow_add-new c).Start).sound.counts in omega arith
 
-pub of_book-requires : goal.of_book-requires
-of_book-requires c = record { places = c.requires.0; accepted = c.requires.1; netted = search rules; costed = c.zeros-costs.ensures }
+pub of_book-ends-requires : goal.of_book-ends-requires
+of_book-ends-requires c = record { places = c.requires.0; accepted = c.requires.1; costed = c.zeros-costs.ensures }
 
 pub choose-crane-requires : goal.choose-crane-requires
 choose-crane-requires c = let k = (called (goal.at.choose-crane-requires c).Start).sound.counts in
@@ -65,9 +65,8 @@ choose-crane-requires c = let k = (called (goal.at.choose-crane-requires c).Star
       crane = k.crane;
       cranes = k.cranes;
       few = omega (arith, (called (goal.at.choose-crane-requires c).Start).space);
-      netted = omega (arith, c.of_book.auto, k.cranes);
-      costed = (c.of_book.ensures _ c.requires.1).costed;
-      low = (c.of_book.ensures _ c.requires.1).low;
+      costed = (c.of_book-ends.ensures _ c.requires.1).costed;
+      low = (c.of_book-ends.ensures _ c.requires.1).low;
     }
 
 pub cost-least-requires : goal.cost-least-requires
@@ -75,21 +74,21 @@ cost-least-requires c = let k = (called (goal.at.cost-least-requires c).Start).s
     record {
       few = omega arith;
       planned = omega (arith, plan_long (goal.at.cost-least-requires c).Start);
-      costed = (c.of_book.ensures _ c.requires.1).costed;
+      costed = (c.of_book-ends.ensures _ c.requires.1).costed;
       below = (plan_facts _ _ _ (called (goal.at.cost-least-requires c).Start).sound.plan).below;
     }
 
 pub cost-requires : goal.cost-requires
 cost-requires c = (
   omega (arith, (called (goal.at.cost-requires c).Start).sound.counts.cranes, (called (goal.at.cost-requires c).Start).space),
-  (omega (arith, sent_low (goal.at.cost-requires c).After-choose-crane), (c.of_book.ensures _ c.requires.1).costed),
+  (omega (arith, sent_low (goal.at.cost-requires c).After-choose-crane), (c.of_book-ends.ensures _ c.requires.1).costed),
 )
 
-pub offset_bounds-nets-crane : goal.offset_bounds-nets-crane
-offset_bounds-nets-crane c = omega (arith, sent_low (goal.at.offset_bounds-nets-crane c).After-choose-crane)
+pub offset_bounds-ends-crane : goal.offset_bounds-ends-crane
+offset_bounds-ends-crane c = omega (arith, sent_low (goal.at.offset_bounds-ends-crane c).After-choose-crane)
 
-pub bounds-nets-crane : goal.bounds-nets-crane
-bounds-nets-crane c = sent_low (goal.at.bounds-nets-crane c).After-choose-crane
+pub bounds-ends-crane : goal.bounds-ends-crane
+bounds-ends-crane c = sent_low (goal.at.bounds-ends-crane c).After-choose-crane
 
 pub overflow_add-result : goal.overflow_add-result
 overflow_add-result c = let sum = summed (goal.at.overflow_add-result c).After-cost in omega arith
@@ -99,5 +98,5 @@ overflow_sub-result c = let sum = summed (goal.at.overflow_sub-result c).After-c
 
 pub returns : goal.returns
 returns c = λ n h.
-    quote_told (arrays (goal.at.returns c).Start) (quote_called h) (c.of_book.ensures n h) c.choose-crane.ensures c.cost.ensures
-    (ap (λ (x : ℕ). x + at c.of_book.new.nets c.choose-crane.result - net_base) c.cost-least.ensures)
+    quote_told (arrays (goal.at.returns c).Start) (quote_called h) (c.of_book-ends.ensures n h) c.choose-crane.ensures c.cost.ensures
+    (ap (λ (x : ℕ). x + at c.of_book-ends.result.nets c.choose-crane.result - net_base) c.cost-least.ensures)

@@ -3,6 +3,7 @@
 use Prim.Native.Nat.{ℕ, ◌+◌, ◌≤◌}
 use mathlib.Core.Path.{◌≡◌}
 use lib.IntN.{ℤ, pos, neg_ℤ, ◌-ℤ◌, +ℤ_idl}
+use lib.ListN.{set}
 use mir.Syntax.{w64}
 use mir.Val.{SFits, to_z, of_z}
 use mir.ValLaws.{to_z-of_z}
@@ -12,7 +13,7 @@ use Rattle.road.specs.Table.{most_metres}
 use Rattle.book.specs.Book.{follower}
 use Rattle.dispatch.specs.Legs.{leg_at}
 use Rattle.dispatch.specs.Search.{at, net_base, net_of, Totalled}
-use Rattle.dispatch.proofs.weights.renew.Invariants.{renew_begun, renew_turned, renew_ended}
+use Rattle.dispatch.proofs.weights.renew.Invariants.{Renewing, renew_begun, renew_turned, renew_ended}
 use Rattle.dispatch.proofs.weights.renew.Goals as goal
 use Rattle.dispatch.proofs.weights.renew.Goals.{After-net_cost-net, In-loop-p}
 
@@ -74,9 +75,20 @@ offset_bounds-weights-b c = omega (arith, follower_on (goal.at.offset_bounds-wei
 pub bounds-weights-b : goal.bounds-weights-b
 bounds-weights-b c = omega (arith, follower_on (goal.at.bounds-weights-b c).In-loop-p, c.requires.weighed, c.loop-p.invariant.weighed)
 
+-- a turn of the loop
+turned : (c : After-net_cost-net) → c.net_cost-net.result ≡ pos (net_of (follower c.args.plan.now) (leg_at c.args.costs.now) (at c.args.totals.now) c.loop-p.p) -ℤ pos net_base
+    → net_of (follower c.args.plan.now) (leg_at c.args.costs.now) (at c.args.totals.now) c.loop-p.p ≤ net_base + most_metres
+    → Renewing c.args.new (follower c.args.plan.now) (net_of (follower c.args.plan.now) (leg_at c.args.costs.now) (at c.args.totals.now)) c.args.weights.now
+    (set c.loop-p.weights (follower c.args.plan.now c.loop-p.p) (to_z w64 (of_z w64 (pos 0 -ℤ to_z w64 (of_z w64 c.net_cost-net.result))))) (c.loop-p.p + 1)
+turned c called low = renew_turned _ _ _ _ c.requires.weighed c.loop-p.invariant c.requires.matched c.loop-p-test.true (opposite_read _ low called)
+
 pub loop-p-preserved : goal.loop-p-preserved
-loop-p-preserved c = renew_turned _ _ _ _ c.requires.weighed c.loop-p.invariant c.requires.matched c.loop-p-test.true
-    (opposite_read _ (net_low (goal.at.loop-p-preserved c).In-loop-p) (called (goal.at.loop-p-preserved c).After-net_cost-net))
+loop-p-preserved c = turned (goal.at.loop-p-preserved c).After-net_cost-net (called (goal.at.loop-p-preserved c).After-net_cost-net)
+    (net_low (goal.at.loop-p-preserved c).In-loop-p)
 
 pub returns : goal.returns
 returns c = renew_ended _ _ _ _ c.requires.weighed c.loop-p.invariant c.loop-p-test.false
+
+pub returns-2 : goal.returns-2
+returns-2 c = renew_ended _ _ _ _ c.requires.weighed (turned (goal.at.returns-2 c).After-net_cost-net (called (goal.at.returns-2 c).After-net_cost-net)
+    (net_low (goal.at.returns-2 c).In-loop-p)) (omega arith)

@@ -1,6 +1,6 @@
 -- `dispatch::weights::renew` meets its contract: each follower follows one stop, so that no weight is renewed twice.
 -- Assumes nothing.
-use Prim.Native.Nat.{ℕ, ◌+◌, ◌-◌, ◌<◌, ◌≤◌}
+use Prim.Native.Nat.{ℕ, ◌+◌, ◌<◌, ◌≤◌}
 use mathlib.Core.List.{List}
 use mathlib.Core.Path.{◌≡◌, refl, ◌∙◌}
 use lib.IntN.{ℤ, pos, neg_ℤ, ◌-ℤ◌}
@@ -41,6 +41,3 @@ module _ (new : ℕ) (f net : ℕ → ℕ) (weights₀ : List ℤ) where
 
 abbrev pub invariant-loop-p : goal.invariant-loop-p
 invariant-loop-p l = Renewing l.new (follower l.plan) (net_of (follower l.plan) (leg_at l.costs) (at l.totals)) l.initial.weights l.weights l.p
-
-abbrev pub decreases-loop-p : goal.decreases-loop-p
-decreases-loop-p l = l.new + 1 - l.p

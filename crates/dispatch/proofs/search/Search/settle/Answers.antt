@@ -1,4 +1,4 @@
--- `dispatch::search::settle` meets its contract: the row lent to `relax` holds the legs to the stop's follower, as far as that
+-- `dispatch::search::Search::settle` meets its contract: the row lent to `relax` holds the legs to the stop's follower, as far as that
 -- follower reaches. Assumes nothing.
 use Prim.Native.Nat.{ℕ, ◌<◌}
 use mathlib.Core.List.{List}
@@ -12,7 +12,7 @@ use Rattle.base.proofs.Lists.{length-up_to, get_or-up_to}
 use Rattle.dispatch.specs.Legs.{leg_at}
 use Rattle.dispatch.specs.Search.{at, Unbettered, Bettered, Relaxed}
 use Rattle.dispatch.proofs.search.Laws.{reach_most}
-use Rattle.dispatch.proofs.search.settle.Goals as goal
+use Rattle.dispatch.proofs.search.Search.settle.Goals as goal
 
 module _ {limit net from : ℕ} {total parent total' parent' : ℕ → ℕ} where
   same_row : (row row' : ℕ → ℕ) → ((p : ℕ) → p < limit → row p ≡ row' p) → Relaxed limit net from row total parent total' parent'
@@ -45,7 +45,7 @@ row_to-row-requires c = (
 pub relax-requires : goal.relax-requires
 relax-requires c = let long = simp length-up_to at (ap length c.row_to-row.ensures) in
     let most = reach_most c.args.cranes c.args.new _ (le_of_lt c.requires.follows) in
-    (omega arith, (omega arith, omega arith))
+    (omega (arith, c.requires.few, c.limit.ensures), omega arith)
 
 pub returns : goal.returns
-returns c = row_worked _ _ _ c.row_to-row.ensures c.limit.ensures (rw c.cost.ensures) c.relax.ensures
+returns c = (c.relax.ensures.0, row_worked _ _ _ c.row_to-row.ensures c.limit.ensures (rw c.cost.ensures) c.relax.ensures.1)

@@ -1,12 +1,12 @@
--- `dispatch::search::fill_heads` meets its contract: the loop fills the heads from the front. Assumes nothing.
+-- `dispatch::search::heads_of` meets its contract: the loop fills the heads from the front. Assumes nothing.
 use Prim.Native.Nat.{◌<◌}
 use mathlib.Core.Path.{◌∙◌}
 use native.Mathlib.Omega.{arith}
 use Rattle.base.proofs.Lists.{fill_begun, fill_turned, filled_at}
 use Rattle.book.specs.Book.{follower}
 use Rattle.book.proofs.Vouching.{read_back}
-use Rattle.dispatch.proofs.search.fill_heads.Goals as goal
-use Rattle.dispatch.proofs.search.fill_heads.Goals.{In-loop-p}
+use Rattle.dispatch.proofs.search.heads_of.Goals as goal
+use Rattle.dispatch.proofs.search.heads_of.Goals.{In-loop-p}
 
 -- the follower of p is in range
 kept_below : (c : In-loop-p) → follower c.args.plan.now c.loop-p.p < c.args.new

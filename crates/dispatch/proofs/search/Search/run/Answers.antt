@@ -1,4 +1,4 @@
--- `dispatch::search::search` meets its contract: the heads of a plan whose weights vouch for it vouch too, and at first every stop
+-- `dispatch::search::Search::run` meets its contract: the heads of a plan whose weights vouch for it vouch too, and at first every stop
 -- takes the new call. Assumes nothing.
 use Prim.Native.Nat.{ℕ, ◌<◌, ◌≤◌}
 use mathlib.Core.List.{List}
@@ -7,22 +7,21 @@ use borrow.Author.Rules.{rules}
 use lib.IntN.{ℤ}
 use native.Mathlib.Nat.{le_of_lt}
 use native.Mathlib.Omega.{arith}
-use Rattle.base.proofs.Lists.{get_or-padded}
 use Rattle.base.proofs.Tests.{below_at}
 use Rattle.road.specs.Table.{most_metres}
 use Rattle.workfunction.proofs.Plan.{plan_facts}
 use Rattle.book.specs.Book.{follower, weight}
 use Rattle.book.specs.Weights.{Weighed}
-use Rattle.dispatch.specs.Legs.{plan_room, leg_at}
+use Rattle.dispatch.specs.Legs.{leg_at}
 use Rattle.dispatch.specs.Search.{at, head_of, Ready, Sized, Witnessed}
 use Rattle.dispatch.proofs.search.Heads.{head_high, heads_vouch}
-use Rattle.dispatch.proofs.search.search.Goals as goal
+use Rattle.dispatch.proofs.search.Search.run.Goals as goal
 
 module _ {k N : ℕ} {plan : List ℕ} {weights : List ℤ} {costs : List ℕ} (w : Witnessed k N plan weights costs) where
   below : (p : ℕ) → p < N → follower plan p < N
   below = (plan_facts k N (follower plan) w.certified.planned).below
 
-  in_range : {totals parents ranks : List ℕ} → Sized N plan costs totals parents ranks → Weighed N plan weights
+  in_range : Sized N plan costs → Weighed N plan weights
   in_range sized = record {
     followed = record { most = omega arith; planned = le_of_lt sized.planned; weighed = w.weighed; below = below };
     ranged = below_at _ N w.certified.ranged;
@@ -46,16 +45,18 @@ module _ {k N : ℕ} {plan : List ℕ} {weights : List ℤ} {costs : List ℕ} (
             (heads_vouch k N (follower plan) (leg_at costs) (weight weights) w.certified.vouched (below_at _ N w.certified.ranged) below leg p q lt less may);
       }
 
-pub fill_heads-requires : goal.fill_heads-requires
-fill_heads-requires c = record { headed = le_of_lt c.requires.witnessed.few; weighed = in_range c.requires.witnessed c.requires.sized; costed = c.requires.sized.costed; short = leg c.requires.witnessed }
+pub heads_of-heads-requires : goal.heads_of-heads-requires
+heads_of-heads-requires c = record {
+  weighed = in_range c.requires.witnessed c.requires.sized;
+  costed = c.requires.sized.costed;
+  short = leg c.requires.witnessed;
+}
 
 pub rounds-requires : goal.rounds-requires
 rounds-requires c = record {
   headed = search rules;
-  listed = search rules;
-  opened = λ p lt. rw c.own-stops.ensures (get_or-padded plan_room c.args.new (λ i. i) 0 0 p lt);
-  sized = record { planned = c.requires.sized.planned; costed = c.requires.sized.costed; totalled = search rules; parented = search rules; ranked = omega (arith, c.begin) };
-  ready = heads_ready c.requires.witnessed c.requires.self c.fill_heads.new.heads c.fill_heads.ensures;
+  sized = c.requires.sized;
+  ready = heads_ready c.requires.witnessed c.requires.self _ c.heads_of-heads.ensures;
   begun = c.begin.ensures;
 }
 

@@ -1,18 +1,19 @@
--- `dispatch::choice::fill_nets` meets its contract: the loop has entered the stops below p, each at its follower where that is an end.
+-- `dispatch::choice::Ends::of` meets its contract: the loop has entered the stops below p, each at its follower where that is an end.
 -- No end is entered twice, since it follows one stop, and every end is, since it follows a stop. Assumes nothing.
-use Prim.Native.Nat.{ℕ, ◌+◌, ◌-◌, ◌<◌, ◌≤◌}
+use Prim.Native.Nat.{ℕ, ◌+◌, ◌<◌, ◌≤◌}
 use mathlib.Core.List.{List}
 use mathlib.Core.Path.{◌≡◌, refl, ◌∙◌}
-use lib.ListN.{length, set, length-set}
+use lib.ListN.{length, set, length-set, replicate}
 use lib.Seq.{get_or-set_same, get_or-set_other}
 use native.Mathlib.Omega.{arith}
 use Rattle.base.proofs.Tests.{one_more}
+use Rattle.dayfile.specs.Day.{most_cranes}
 use Rattle.workfunction.proofs.Plan.{Plan, stop_before, stop_only}
 use Rattle.book.specs.Book.{follower}
 use Rattle.dispatch.specs.Legs.{leg_at}
 use Rattle.dispatch.specs.Search.{at, net_of}
 use Rattle.dispatch.specs.Insertion.{Freed}
-use Rattle.dispatch.proofs.choice.fill_nets.Given as goal
+use Rattle.dispatch.proofs.choice.Ends.of.Given as goal
 
 module _ (k N : ℕ) (f net : ℕ → ℕ) (nets₀ before₀ : List ℕ) where
   pub record Freeing (nets before : List ℕ) (p : ℕ) : Type 0 where
@@ -79,7 +80,4 @@ module _ (k N : ℕ) (f net : ℕ → ℕ) (nets₀ before₀ : List ℕ) where
               (q, l, b.2, rw b.2 at (s.stop q (omega arith) end), rw b.2 at (s.cost q (omega arith) end))
 
 abbrev pub invariant-loop-p : goal.invariant-loop-p
-invariant-loop-p l = Freeing l.cranes l.new (follower l.plan) (net_of (follower l.plan) (leg_at l.costs) (at l.totals)) l.initial.nets l.initial.before l.nets l.before l.p
-
-abbrev pub decreases-loop-p : goal.decreases-loop-p
-decreases-loop-p l = l.new - l.p
+invariant-loop-p l = Freeing l.cranes l.new (follower l.plan) (net_of (follower l.plan) (leg_at l.costs) (at l.totals)) (replicate most_cranes 0) (replicate most_cranes 0) l.nets l.before l.p

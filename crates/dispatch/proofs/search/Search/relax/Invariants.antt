@@ -1,5 +1,5 @@
--- `dispatch::search::relax` meets its contract: the loop has done its work on the stops below p. Assumes nothing.
-use Prim.Native.Nat.{ℕ, ◌+◌, ◌-◌, ◌<◌, ◌≤◌}
+-- `dispatch::search::Search::relax` meets its contract: the loop has done its work on the stops below p. Assumes nothing.
+use Prim.Native.Nat.{ℕ, ◌+◌, ◌<◌, ◌≤◌}
 use mathlib.Core.List.{List}
 use mathlib.Core.Logic.{◌⊎◌, inl, inr}
 use mathlib.Core.Path.{◌≡◌, refl, ◌∙◌}
@@ -9,7 +9,7 @@ use native.Mathlib.Decide.{ℕ_discrete}
 use native.Mathlib.Nat.{le_antisymm}
 use native.Mathlib.Omega.{arith}
 use Rattle.dispatch.specs.Search.{at, Unbettered, Bettered, Relaxed}
-use Rattle.dispatch.proofs.search.relax.Given as goal
+use Rattle.dispatch.proofs.search.Search.relax.Given as goal
 
 module _ (row : List ℕ) (net from : ℕ) (totals₀ parents₀ : List ℕ) where
   pub record Relaxing (totals parents : List ℕ) (p : ℕ) : Type 0 where
@@ -83,7 +83,4 @@ module _ (row : List ℕ) (net from : ℕ) (totals₀ parents₀ : List ℕ) whe
         })
 
 abbrev pub invariant-loop-p : goal.invariant-loop-p
-invariant-loop-p l = Relaxing l.row l.net l.from l.initial.totals l.initial.parents l.totals l.parents l.p
-
-abbrev pub decreases-loop-p : goal.decreases-loop-p
-decreases-loop-p l = length l.row - l.p
+invariant-loop-p l = (l.self.ranks ≡ l.initial.self.ranks) × Relaxing l.row l.net l.from l.initial.self.totals l.initial.self.parents l.self.totals l.self.parents l.p
