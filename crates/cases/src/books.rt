@@ -110,7 +110,12 @@ fn costs(rt: &impl Print, book: Book, question: Question) -> io::Result<()> {
     let (least, floor) = costs.map_or((0, 0), |costs| (costs.least, costs.floor));
     let nets = told::net_costs(book, question.places, question.table, question.place);
     let zeros = line::rest_is(0, &nets.unwrap_or([0; Book::CRANES]), 0);
-    print!(rt; " {} {least} {floor} {} {}", told::code(costs), told::code(nets), u8::from(zeros))
+    print!(rt;
+        " {} {least} {floor} {} {}",
+        told::code(costs),
+        told::code(nets),
+        u8::from(zeros)
+    )
 }
 
 // Prints of a book and a call the number that the test gives; the costs and the net costs; the number of the quote, and whether its crane,
@@ -122,7 +127,10 @@ fn ask(rt: &impl Print, book: Book, question: Question) -> io::Result<()> {
     print!(rt; " {tested}")?;
     costs(rt, book, question)?;
     let quote = told::quote(book, places, table, question.place);
-    let zeros = quote.map_or(true, |quote| (quote.crane == 0) & (quote.metres == 0) & (quote.least == 0));
+    let zeros = quote.map_or(
+        true,
+        |quote| (quote.crane == 0) & (quote.metres == 0) & (quote.least == 0),
+    );
     print!(rt; " {} {}", told::code(quote), u8::from(zeros))?;
     let commit = told::commit(book, places, table, question.place, question.crane);
     let same = commit.map_or(true, |commit| is_blank(commit, book));
@@ -146,14 +154,28 @@ pub(crate) fn counts(rt: &impl Print) -> io::Result<()> {
     ask_near(rt, alone())?;
     ask_near(rt, most())?;
     ask(rt, alone(), over(1, &[]))?;
-    ask(rt, alone(), Question { place: 63, ..over(64, &[7; 2_016]) })?;
+    ask(
+        rt,
+        alone(),
+        Question {
+            place: 63,
+            ..over(64, &[7; 2_016])
+        },
+    )?;
     // Places and legs, the other counts, places past the last, then the legs.
     line::begin(rt, 20)?;
     ask(rt, most(), over(65, &[]))?;
     ask(rt, most(), over(3, &[7; 2]))?;
     ask(rt, most(), over(3, &[7; 4]))?;
     ask(rt, most(), over(1, &[7]))?;
-    ask(rt, alone(), Question { place: 63, ..over(64, &[7; 2_015]) })?;
+    ask(
+        rt,
+        alone(),
+        Question {
+            place: 63,
+            ..over(64, &[7; 2_015])
+        },
+    )?;
     ask_near(rt, full(0, 0, 256))?;
     ask_near(rt, full(0, 17, 256))?;
     ask_near(rt, full(0, 16, 257))?;
@@ -170,7 +192,10 @@ pub(crate) fn plans(rt: &impl Print) -> io::Result<()> {
     line::begin(rt, 21)?;
     ask_near(rt, changed(most(), Follower(1, 2)))?;
     ask_near(rt, changed(most(), Follower(271, 272)))?;
-    ask_near(rt, changed(changed(most(), Follower(18, 21)), Follower(20, 19)))?;
+    ask_near(
+        rt,
+        changed(changed(most(), Follower(18, 21)), Follower(20, 19)),
+    )?;
     line::begin(rt, 22)?;
     let away = changed(most(), Stand(0, 1));
     ask_near(rt, away)?;
@@ -196,7 +221,14 @@ pub(crate) fn metres(rt: &impl Print) -> io::Result<()> {
     ask_near(rt, changed(most(), Driven(15, LONGEST)))?;
     ask_near(rt, changed(most(), Driven(15, LONGER)))?;
     ask_near(rt, changed(idle, Driven(0, 1)))?;
-    ask(rt, changed(idle, Driven(1, u32::MAX)), Question { crane: 1, ..over(2, &[7]) })
+    ask(
+        rt,
+        changed(idle, Driven(1, u32::MAX)),
+        Question {
+            crane: 1,
+            ..over(2, &[7])
+        },
+    )
 }
 
 // 3 before 6, of the places and of a run that is too short or too long; 6 before 7, 7 before 4, 4 before 5, 5 before 8, 8 before 9, 9 before 10,
@@ -214,21 +246,51 @@ pub(crate) fn order(rt: &impl Print) -> io::Result<()> {
     ask_near(rt, changed(full(OVER, 16, 256), Follower(1, 2)))?;
     let near = over(2, &[7]);
     let longer = changed(most(), Driven(15, LONGER));
-    ask(rt, changed(full(OVER, 16, 256), Driven(15, LONGER)), Question { place: 2, ..near })?;
-    ask(rt, longer, Question { place: 2, crane: 16, ..near })?;
-    ask(rt, most(), Question { place: 2, crane: 16, ..near })?;
+    ask(
+        rt,
+        changed(full(OVER, 16, 256), Driven(15, LONGER)),
+        Question { place: 2, ..near },
+    )?;
+    ask(
+        rt,
+        longer,
+        Question {
+            place: 2,
+            crane: 16,
+            ..near
+        },
+    )?;
+    ask(
+        rt,
+        most(),
+        Question {
+            place: 2,
+            crane: 16,
+            ..near
+        },
+    )?;
     ask(rt, most(), Question { crane: 16, ..near })?;
     ask(rt, most(), Question { crane: 15, ..near })
 }
 
 // Books with space for the call: one crane, sent itself, and numbers above it; sixteen cranes, the last one sent, and the number above it.
 pub(crate) fn cranes(rt: &impl Print) -> io::Result<()> {
-    let away = Question { place: 1, ..over(2, &[7]) };
+    let away = Question {
+        place: 1,
+        ..over(2, &[7])
+    };
     let last = changed(full(0, 16, 255), Follower(270, 0));
     line::begin(rt, 26)?;
     ask(rt, alone(), away)?;
     ask(rt, alone(), Question { crane: 1, ..away })?;
-    ask(rt, alone(), Question { crane: usize::MAX, ..away })?;
+    ask(
+        rt,
+        alone(),
+        Question {
+            crane: usize::MAX,
+            ..away
+        },
+    )?;
     ask(rt, last, Question { crane: 15, ..away })?;
     ask(rt, last, Question { crane: 16, ..away })
 }

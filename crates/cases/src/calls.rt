@@ -56,7 +56,13 @@ pub(crate) fn filled(rt: &impl Print, fresh: Book) -> io::Result<Book> {
 }
 
 // The book after a crane was sent to a place, the same book where that is refused.
-pub(crate) fn after_commit(book: Book, places: usize, table: &[u32], place: u16, crane: usize) -> Book {
+pub(crate) fn after_commit(
+    book: Book,
+    places: usize,
+    table: &[u32],
+    place: u16,
+    crane: usize,
+) -> Book {
     told::commit(book, places, table, place, crane).map_or(book, |commit| commit.book)
 }
 
@@ -114,7 +120,11 @@ impl Sent {
 
 impl fmt::Display for Sent {
     fn fmt<W: fmt::Write>(&self, f: &mut fmt::Formatter<W>) -> fmt::Result {
-        write!(f, " {} {} {} {}", self.number, self.least, self.kept, self.floor)
+        write!(
+            f,
+            " {} {} {} {}",
+            self.number, self.least, self.kept, self.floor
+        )
     }
 }
 

@@ -68,9 +68,17 @@ pub(crate) fn idle(places: usize, cranes: usize) -> Day {
 }
 
 // Prints of what was written into a buffer of sevens the number, the length, and whether the bytes past it are as before, 1 or 0.
-pub(crate) fn show(rt: &impl Print, written: Result<usize, Refusal>, buffer: &[u8]) -> io::Result<()> {
+pub(crate) fn show(
+    rt: &impl Print,
+    written: Result<usize, Refusal>,
+    buffer: &[u8],
+) -> io::Result<()> {
     let length = written.unwrap_or(0);
-    print!(rt; " {} {length} {}", told::code(written), u8::from(line::rest_is(7, buffer, length)))
+    print!(rt;
+        " {} {length} {}",
+        told::code(written),
+        u8::from(line::rest_is(7, buffer, length))
+    )
 }
 
 // Writes a day into a buffer.
@@ -124,7 +132,15 @@ pub(crate) fn order(rt: &impl Print) -> io::Result<()> {
     tell(rt, idle(0, 0), &[])?;
     tell(rt, idle(3, 0), &[7; 2])?;
     tell(rt, idle(3, 17), &[7; 4])?;
-    take(rt, Case { cranes: 17, calls: 257, ..A }, 20)?;
+    take(
+        rt,
+        Case {
+            cranes: 17,
+            calls: 257,
+            ..A
+        },
+        20,
+    )?;
     take(rt, Case { calls: 257, ..A }, 1_000_001)?;
     take(rt, Case { start: 3, ..A }, 1_000_001)?;
     take(rt, Case { call: 3, ..A }, 26)?;

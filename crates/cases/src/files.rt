@@ -42,9 +42,6 @@ const ODD: Record = Record {
     metres: 0,
 };
 
-// Four records.
-const SHORT: usize = 48;
-
 // The records of the longest file, and one more.
 const LONG: usize = Day::FILE_LENGTH / Day::RECORD_LENGTH + 1;
 
@@ -90,7 +87,9 @@ fn comes_back(reading: Reading, bytes: &[u8]) -> bool {
 
 // The sum of all entries of a table.
 fn sum(table: &[u32]) -> u64 {
-    table.iter().fold(0u64, |sum, &metres| sum.wrapping_add(u64::from(metres)))
+    table
+        .iter()
+        .fold(0u64, |sum, &metres| sum.wrapping_add(u64::from(metres)))
 }
 
 // Reads a file.
@@ -104,24 +103,34 @@ fn read(rt: &impl Print, bytes: &[u8]) -> io::Result<()> {
     }
 }
 
-// Reads so many bytes of a file of up to four records, with one byte set.
-fn short(rt: &impl Print, records: &[Record], length: usize, at: usize, byte: u8) -> io::Result<()> {
-    let mut file = [0; SHORT];
-    for (bytes, record) in file.chunks_exact_mut(Day::RECORD_LENGTH).zip(records.iter()) {
-        bytes.copy_from_slice(&record.bytes());
-    }
-    line::set(&mut file, at, byte);
-    read(rt, &file[..length.min(SHORT)])
-}
-
-// Reads a file of up to four records.
-fn records(rt: &impl Print, records: &[Record]) -> io::Result<()> {
+// Four records, of which the last ones may be missing: then their bytes are 0.
+fn bytes_of(records: &[Record]) -> [[u8; Day::RECORD_LENGTH]; 4] {
     let mut file = [[0; Day::RECORD_LENGTH]; 4];
     for (bytes, record) in file.iter_mut().zip(records.iter()) {
         *bytes = record.bytes();
     }
+    file
+}
+
+// Reads a file of up to four records.
+fn records(rt: &impl Print, records: &[Record]) -> io::Result<()> {
+    let file = bytes_of(records);
     let many = records.len().min(4);
     read(rt, file[..many].as_flattened())
+}
+
+// Reads so many bytes of such a file, with one byte set.
+fn short(
+    rt: &impl Print,
+    records: &[Record],
+    length: usize,
+    at: usize,
+    byte: u8,
+) -> io::Result<()> {
+    let mut file = bytes_of(records);
+    line::set(file.as_flattened_mut(), at, byte);
+    let bytes = file.as_flattened();
+    read(rt, bytes.get(..length).unwrap_or(bytes))
 }
 
 // A file of so many legs in their order, the last of so many metres and the others of 1, cranes and calls, and one record more.
@@ -179,7 +188,10 @@ pub(crate) fn metres(rt: &impl Print, file: &[u8]) -> io::Result<()> {
     records(rt, &[leg(0, 1, 1), crane(1), call(0), call(1)])?;
     records(rt, &[leg(0, 1, 1_000_001), crane(1), call(0), call(1)])?;
     records(rt, &[leg(0, 1, 0), crane(1), call(0), call(1)])?;
-    records(rt, &[leg(0, 1, 10), leg(0, 2, u32::MAX), leg(1, 2, 15), crane(0)])?;
+    records(
+        rt,
+        &[leg(0, 1, 10), leg(0, 2, u32::MAX), leg(1, 2, 15), crane(0)],
+    )?;
     records(rt, &[leg(0, 1, 0), leg(0, 2, 5), leg(1, 2, 5), crane(0)])?;
     records(rt, &[leg(0, 1, 0), leg(0, 2, 5), leg(1, 2, 6), crane(0)])?;
     // No record, part of a record, and a record and a byte; 1 before 2.
@@ -254,27 +266,125 @@ pub(crate) fn cranes(rt: &impl Print) -> io::Result<()> {
     records(rt, &[leg(0, 1, 10), leg(0, 2, 26), leg(1, 2, 15)])?;
     records(rt, &[leg(0, 1, 10), call(0)])?;
     records(rt, &[leg(0, 1, 10), leg(1, 2, 15)])?;
-    Long { legs: 3, metres: 1, cranes: 0, calls: 0, last: call(2) }.read(rt, 48)?;
+    Long {
+        legs: 3,
+        metres: 1,
+        cranes: 0,
+        calls: 0,
+        last: call(2),
+    }
+    .read(rt, 48)?;
     // Sixteen cranes, and seventeen; 5 before 6, 6 of a record before 8.
     line::begin(rt, 13)?;
-    Long { legs: 3, metres: 1, cranes: 15, calls: 0, last: crane(2) }.read(rt, 228)?;
-    Long { legs: 3, metres: 1, cranes: 16, calls: 0, last: crane(2) }.read(rt, 240)?;
-    Long { legs: 3, metres: 1, cranes: 16, calls: 0, last: crane(3) }.read(rt, 240)?;
-    Long { legs: 3, metres: 3, cranes: 16, calls: 0, last: crane(2) }.read(rt, 240)
+    Long {
+        legs: 3,
+        metres: 1,
+        cranes: 15,
+        calls: 0,
+        last: crane(2),
+    }
+    .read(rt, 228)?;
+    Long {
+        legs: 3,
+        metres: 1,
+        cranes: 16,
+        calls: 0,
+        last: crane(2),
+    }
+    .read(rt, 240)?;
+    Long {
+        legs: 3,
+        metres: 1,
+        cranes: 16,
+        calls: 0,
+        last: crane(3),
+    }
+    .read(rt, 240)?;
+    Long {
+        legs: 3,
+        metres: 3,
+        cranes: 16,
+        calls: 0,
+        last: crane(2),
+    }
+    .read(rt, 240)
 }
 
 // 256 calls, and 257; 5 before 7, 7 before 8. Then the longest file; a byte more, and a record more; a leg to a place above 63; the triangle
 // rule.
 pub(crate) fn calls(rt: &impl Print) -> io::Result<()> {
     line::begin(rt, 14)?;
-    Long { legs: 3, metres: 1, cranes: 1, calls: 255, last: call(2) }.read(rt, 3_120)?;
-    Long { legs: 3, metres: 1, cranes: 1, calls: 256, last: call(2) }.read(rt, 3_132)?;
-    Long { legs: 3, metres: 1, cranes: 1, calls: 256, last: call(3) }.read(rt, 3_132)?;
-    Long { legs: 3, metres: 3, cranes: 1, calls: 256, last: call(2) }.read(rt, 3_132)?;
+    Long {
+        legs: 3,
+        metres: 1,
+        cranes: 1,
+        calls: 255,
+        last: call(2),
+    }
+    .read(rt, 3_120)?;
+    Long {
+        legs: 3,
+        metres: 1,
+        cranes: 1,
+        calls: 256,
+        last: call(2),
+    }
+    .read(rt, 3_132)?;
+    Long {
+        legs: 3,
+        metres: 1,
+        cranes: 1,
+        calls: 256,
+        last: call(3),
+    }
+    .read(rt, 3_132)?;
+    Long {
+        legs: 3,
+        metres: 3,
+        cranes: 1,
+        calls: 256,
+        last: call(2),
+    }
+    .read(rt, 3_132)?;
     line::begin(rt, 15)?;
-    Long { legs: 2_016, metres: 1, cranes: 16, calls: 255, last: call(63) }.read(rt, 27_456)?;
-    Long { legs: 2_016, metres: 1, cranes: 16, calls: 256, last: call(63) }.read(rt, 27_457)?;
-    Long { legs: 2_016, metres: 1, cranes: 16, calls: 256, last: call(63) }.read(rt, 27_468)?;
-    Long { legs: 2_017, metres: 1, cranes: 16, calls: 254, last: call(63) }.read(rt, 27_456)?;
-    Long { legs: 2_016, metres: 3, cranes: 16, calls: 255, last: call(63) }.read(rt, 27_456)
+    Long {
+        legs: 2_016,
+        metres: 1,
+        cranes: 16,
+        calls: 255,
+        last: call(63),
+    }
+    .read(rt, 27_456)?;
+    Long {
+        legs: 2_016,
+        metres: 1,
+        cranes: 16,
+        calls: 256,
+        last: call(63),
+    }
+    .read(rt, 27_457)?;
+    Long {
+        legs: 2_016,
+        metres: 1,
+        cranes: 16,
+        calls: 256,
+        last: call(63),
+    }
+    .read(rt, 27_468)?;
+    Long {
+        legs: 2_017,
+        metres: 1,
+        cranes: 16,
+        calls: 254,
+        last: call(63),
+    }
+    .read(rt, 27_456)?;
+    Long {
+        legs: 2_016,
+        metres: 3,
+        cranes: 16,
+        calls: 255,
+        last: call(63),
+    }
+    .read(rt, 27_456)
 }

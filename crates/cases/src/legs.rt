@@ -58,8 +58,16 @@ fn placed(index: usize, leg: Pair) -> bool {
 
 // How many legs are found by their index, and how many indices by their leg.
 fn lookups(rt: &impl Print, legs: &[Pair]) -> io::Result<()> {
-    let by_index = legs.iter().enumerate().filter(|&(index, &leg)| found(index, leg)).count();
-    let by_leg = legs.iter().enumerate().filter(|&(index, &leg)| placed(index, leg)).count();
+    let by_index = legs
+        .iter()
+        .enumerate()
+        .filter(|&(index, &leg)| found(index, leg))
+        .count();
+    let by_leg = legs
+        .iter()
+        .enumerate()
+        .filter(|&(index, &leg)| placed(index, leg))
+        .count();
     print!(rt; " {by_index} {by_leg}")
 }
 

@@ -20,7 +20,7 @@ pub(crate) fn set<T: Copy>(list: &mut [T], at: usize, value: T) {
 
 // Sets every entry from an index on.
 pub(crate) fn set_rest<T: Copy>(list: &mut [T], from: usize, value: T) {
-    if let Some(rest) = list.get_mut(from..) {
-        rest.fill(value);
+    for entry in list.iter_mut().skip(from) {
+        *entry = value;
     }
 }

@@ -66,8 +66,21 @@ fn to_and_fro() -> Day {
 // have 1,000,000 metres: the last crane drives the last leg.
 pub(crate) fn widths(rt: &impl Print) -> io::Result<()> {
     line::begin(rt, 37)?;
-    write(rt, to_and_fro(), &[1_000_000], sheet::ROW * 255, &mut [7; ROOM])?;
-    let mut day = Case { places: 64, cranes: 16, calls: 1, start: 0, call: 0 }.day();
+    write(
+        rt,
+        to_and_fro(),
+        &[1_000_000],
+        sheet::ROW * 255,
+        &mut [7; ROOM],
+    )?;
+    let mut day = Case {
+        places: 64,
+        cranes: 16,
+        calls: 1,
+        start: 0,
+        call: 0,
+    }
+    .day();
     day.starts[15] = 62;
     day.requests[0] = 63;
     let mut table = [1_000_000; Road::LEGS];

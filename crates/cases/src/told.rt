@@ -101,7 +101,12 @@ pub(crate) fn net_costs(
 }
 
 // The quote of a call.
-pub(crate) fn quote(book: Book, places: usize, table: &[u32], place: u16) -> Result<Quote, Refusal> {
+pub(crate) fn quote(
+    book: Book,
+    places: usize,
+    table: &[u32],
+    place: u16,
+) -> Result<Quote, Refusal> {
     let quote = Dispatch::quote(book, places, table, place);
     accepted(quote.verdict, quote)
 }
