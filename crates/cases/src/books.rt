@@ -1,9 +1,10 @@
 // Books in memory: sound ones, each refusal and the order 3, 6, 7, 4, 5, 8, 9, 10, 13, then 5, 12 and 7 of a call; and that a refused commit
-// hands back the book as it was given.
-use crate::{calls, days, entries, line, nets};
+// tells no other book.
+use crate::days::{A, BROKEN, LEGS, SHORT};
+use crate::{calls, entries, line, told};
 use book::Book;
-use dispatch::Dispatch;
-use road::Road;
+use dispatch::Commit;
+use std::io;
 
 // The most that a weight may be, and one more.
 const MOST: i64 = Book::WEIGHT;
@@ -15,20 +16,37 @@ const LONGEST: u32 = 256_000_000;
 
 const LONGER: u32 = LONGEST + 1;
 
-// What a case changes in a book.
-const NONE: u32 = 0;
+// What a case changes in a book: an entry of a list, by its index.
+#[derive(Clone, Copy)]
+pub enum Change {
+    Start(usize, u16),
+    Stand(usize, u16),
+    Call(usize, u16),
+    Follower(usize, u16),
+    Weight(usize, i64),
+    Driven(usize, u32),
+}
 
-const START: u32 = 1;
+use Change::{Call, Driven, Follower, Stand, Start, Weight};
 
-const STAND: u32 = 2;
+// A call at a place over a road table, and the crane that is sent to it.
+#[derive(Clone, Copy)]
+struct Question<'a> {
+    places: usize,
+    table: &'a [u32],
+    place: u16,
+    crane: usize,
+}
 
-const CALL: u32 = 3;
-
-const PLAN: u32 = 4;
-
-const WEIGHT: u32 = 5;
-
-const DRIVEN: u32 = 6;
+// Crane 0 and place 0, over so many places.
+fn over(places: usize, table: &[u32]) -> Question<'_> {
+    Question {
+        places,
+        table,
+        place: 0,
+        crane: 0,
+    }
+}
 
 // The follower of stop p, other than the first, where the first crane serves every call in turn and every crane ends where it started.
 fn next(p: usize) -> u16 {
@@ -41,8 +59,8 @@ fn next(p: usize) -> u16 {
 // The book of so many cranes and calls with everyone at place 0, weights alike and no metres, and with all entries of a full book.
 fn full(weight: i64, cranes: usize, calls: usize) -> Book {
     let mut plan = [0; Book::STOPS];
-    for p in 0..Book::STOPS {
-        plan[p] = next(p);
+    for (p, follower) in plan.iter_mut().enumerate() {
+        *follower = next(p);
     }
     plan[0] = Book::CRANES as u16;
     Book {
@@ -58,198 +76,236 @@ fn full(weight: i64, cranes: usize, calls: usize) -> Book {
 }
 
 // A book with one entry changed.
-fn changed(book: Book, list: u32, at: usize, value: u32) -> Book {
-    let stop = (value % 65_536) as u16;
+fn changed(book: Book, change: Change) -> Book {
     let mut other = book;
-    match list {
-        START => other.starts[at % Book::CRANES] = stop,
-        STAND => other.stands[at % Book::CRANES] = stop,
-        CALL => other.requests[at % Book::CALLS] = stop,
-        PLAN => other.plan[at % Book::STOPS] = stop,
-        WEIGHT => other.weights[at % Book::STOPS] = value as i64,
-        DRIVEN => other.driven[at % Book::CRANES] = value,
-        _ => {}
+    match change {
+        Start(at, place) => line::set(&mut other.starts, at, place),
+        Stand(at, place) => line::set(&mut other.stands, at, place),
+        Call(at, place) => line::set(&mut other.requests, at, place),
+        Follower(at, stop) => line::set(&mut other.plan, at, stop),
+        Weight(at, weight) => line::set(&mut other.weights, at, weight),
+        Driven(at, metres) => line::set(&mut other.driven, at, metres),
     }
     other
 }
 
-// Prints of a book and a call the number that the test gives; the number of the costs, the least and the floor; the number of the net costs,
-// and whether all 16 are 0, 1 or 0; the number of the quote, and whether its crane, metres and least are 0, 1 or 0; the number of the commit
-// of a crane, and whether its least is 0 and its book is the one given, 1 or 0.
-fn ask(rt: &impl Print, book: Book, places: usize, table: &[u32], place: u16, crane: usize) {
-    line::verdict(rt, book.test(places, table));
-    let costs = Dispatch::costs(book, places, table);
-    let told = costs.verdict;
-    line::verdict(rt, told);
-    line::number(rt, costs.least);
-    line::number(rt, costs.floor);
-    nets::ask(rt, book, places, table, place);
-    let quote = Dispatch::quote(book, places, table, place);
-    let quoted = quote.verdict;
-    line::verdict(rt, quoted);
-    line::number(
-        rt,
-        ((quote.crane == 0) & (quote.metres == 0) & (quote.least == 0)) as u64,
+// The book of one crane without calls, all weights 3, with entries past its counts.
+fn alone() -> Book {
+    changed(full(3, 1, 0), Follower(0, 0))
+}
+
+// The full book.
+fn most() -> Book {
+    full(0, 16, 256)
+}
+
+// Whether a commit has a least of 0 and the book that was given.
+fn is_blank(commit: Commit, book: Book) -> bool {
+    (commit.least == 0) & entries::same(book, commit.book)
+}
+
+// Prints the number of the costs of a book, the least and the floor; the number of the net costs, and whether all 16 are 0, 1 or 0.
+fn costs(rt: &impl Print, book: Book, question: Question) -> io::Result<()> {
+    let costs = told::costs(book, question.places, question.table);
+    let (least, floor) = costs.map_or((0, 0), |costs| (costs.least, costs.floor));
+    let nets = told::net_costs(book, question.places, question.table, question.place);
+    let zeros = line::rest_is(0, &nets.unwrap_or([0; Book::CRANES]), 0);
+    print!(rt;
+        " {} {least} {floor} {} {}",
+        told::code(costs),
+        told::code(nets),
+        u8::from(zeros)
+    )
+}
+
+// Prints of a book and a call the number that the test gives; the costs and the net costs; the number of the quote, and whether its crane,
+// metres and least are 0, 1 or 0; the number of the commit of a crane, and whether its least is 0 and its book is the one given, 1 or 0.
+fn ask(rt: &impl Print, book: Book, question: Question) -> io::Result<()> {
+    let places = question.places;
+    let table = question.table;
+    let tested = told::code(told::test_book(book, places, table));
+    print!(rt; " {tested}")?;
+    costs(rt, book, question)?;
+    let quote = told::quote(book, places, table, question.place);
+    let zeros = quote.map_or(
+        true,
+        |quote| (quote.crane == 0) & (quote.metres == 0) & (quote.least == 0),
     );
-    let commit = Dispatch::commit(book, places, table, place, crane);
-    let committed = commit.verdict;
-    line::verdict(rt, committed);
-    let after = commit.book;
-    line::number(
-        rt,
-        ((commit.least == 0) & entries::same(book, after)) as u64,
-    );
-    line::comma(rt);
+    print!(rt; " {} {}", told::code(quote), u8::from(zeros))?;
+    let commit = told::commit(book, places, table, question.place, question.crane);
+    let same = commit.map_or(true, |commit| is_blank(commit, book));
+    print!(rt; " {} {},", told::code(commit), u8::from(same))
 }
 
-// The same over so many legs of 7 metres.
-fn against(rt: &impl Print, book: Book, places: usize, legs: usize, place: u16, crane: usize) {
-    let table = [7; Road::LEGS];
-    if legs <= Road::LEGS {
-        ask(rt, book, places, &table[0..legs], place, crane);
-    }
+// The same over two places 7 metres apart.
+fn ask_near(rt: &impl Print, book: Book) -> io::Result<()> {
+    ask(rt, book, over(2, &[7]))
 }
 
-// The same of a book of so many cranes and calls with one entry changed.
-fn case(
-    rt: &impl Print,
-    weight: i64,
-    cranes: usize,
-    calls: usize,
-    list: u32,
-    at: usize,
-    value: u32,
-    places: usize,
-    legs: usize,
-    place: u16,
-    crane: usize,
-) {
-    let book = changed(full(weight, cranes, calls), list, at, value);
-    against(rt, book, places, legs, place, crane);
-}
-
-// The same of a book of sixteen cranes and so many calls, over three places by legs that break the triangle rule.
-fn broken(rt: &impl Print, calls: usize, list: u32, at: usize, value: u32, second: u32) {
-    let book = changed(full(0, 16, calls), list, at, value);
-    ask(rt, book, 3, &[10, second, 15], 0, 0);
+// The same over three places by legs that break the triangle rule.
+fn ask_broken(rt: &impl Print, book: Book, second: u32) -> io::Result<()> {
+    ask(rt, book, over(3, &[10, second, 15]))
 }
 
 // A book of one crane without calls, with entries past its counts, and a full one; one crane over one place, and over 64, where it is sent from
 // the first to the last.
-pub(crate) fn counts(rt: &impl Print) {
-    line::begin(rt, 19);
-    case(rt, 3, 1, 0, PLAN, 0, 0, 2, 1, 0, 0);
-    case(rt, 0, 16, 256, NONE, 0, 0, 2, 1, 0, 0);
-    case(rt, 3, 1, 0, PLAN, 0, 0, 1, 0, 0, 0);
-    case(rt, 3, 1, 0, PLAN, 0, 0, 64, 2_016, 63, 0);
+pub(crate) fn counts(rt: &impl Print) -> io::Result<()> {
+    line::begin(rt, 19)?;
+    ask_near(rt, alone())?;
+    ask_near(rt, most())?;
+    ask(rt, alone(), over(1, &[]))?;
+    ask(
+        rt,
+        alone(),
+        Question {
+            place: 63,
+            ..over(64, &[7; 2_016])
+        },
+    )?;
     // Places and legs, the other counts, places past the last, then the legs.
-    line::begin(rt, 20);
-    case(rt, 0, 16, 256, NONE, 0, 0, 65, 0, 0, 0);
-    case(rt, 0, 16, 256, NONE, 0, 0, 3, 2, 0, 0);
-    case(rt, 0, 16, 256, NONE, 0, 0, 3, 4, 0, 0);
-    case(rt, 0, 16, 256, NONE, 0, 0, 1, 1, 0, 0);
-    case(rt, 3, 1, 0, PLAN, 0, 0, 64, 2_015, 63, 0);
-    case(rt, 0, 0, 256, NONE, 0, 0, 2, 1, 0, 0);
-    case(rt, 0, 17, 256, NONE, 0, 0, 2, 1, 0, 0);
-    case(rt, 0, 16, 257, NONE, 0, 0, 2, 1, 0, 0);
-    case(rt, 0, 16, 256, START, 15, 2, 2, 1, 0, 0);
-    case(rt, 0, 16, 256, CALL, 255, 2, 2, 1, 0, 0);
-    case(rt, 0, 16, 256, STAND, 15, 2, 2, 1, 0, 0);
-    broken(rt, 256, NONE, 0, 0, 1_000_001);
-    broken(rt, 256, NONE, 0, 0, 26);
+    line::begin(rt, 20)?;
+    ask(rt, most(), over(65, &[]))?;
+    ask(rt, most(), over(3, &[7; 2]))?;
+    ask(rt, most(), over(3, &[7; 4]))?;
+    ask(rt, most(), over(1, &[7]))?;
+    ask(
+        rt,
+        alone(),
+        Question {
+            place: 63,
+            ..over(64, &[7; 2_015])
+        },
+    )?;
+    ask_near(rt, full(0, 0, 256))?;
+    ask_near(rt, full(0, 17, 256))?;
+    ask_near(rt, full(0, 16, 257))?;
+    ask_near(rt, changed(most(), Start(15, 2)))?;
+    ask_near(rt, changed(most(), Call(255, 2)))?;
+    ask_near(rt, changed(most(), Stand(15, 2)))?;
+    ask_broken(rt, most(), 1_000_001)?;
+    ask_broken(rt, most(), 26)
 }
 
 // A plan that names a stand twice, one with a follower out of range, one that goes back to an earlier call. Then a crane driven away: the
 // last leg to its stand counts, and only the weights of stands tell that.
-pub(crate) fn plans(rt: &impl Print) {
-    let full = full(0, 16, 256);
-    line::begin(rt, 21);
-    case(rt, 0, 16, 256, PLAN, 1, 2, 2, 1, 0, 0);
-    case(rt, 0, 16, 256, PLAN, 271, 272, 2, 1, 0, 0);
-    against(
+pub(crate) fn plans(rt: &impl Print) -> io::Result<()> {
+    line::begin(rt, 21)?;
+    ask_near(rt, changed(most(), Follower(1, 2)))?;
+    ask_near(rt, changed(most(), Follower(271, 272)))?;
+    ask_near(
         rt,
-        changed(changed(full, PLAN, 18, 21), PLAN, 20, 19),
-        2,
-        1,
-        0,
-        0,
-    );
-    line::begin(rt, 22);
-    case(rt, 0, 16, 256, STAND, 0, 1, 2, 1, 0, 0);
-    against(
-        rt,
-        changed(changed(full, STAND, 0, 1), WEIGHT, 0, 7),
-        2,
-        1,
-        0,
-        0,
-    );
+        changed(changed(most(), Follower(18, 21)), Follower(20, 19)),
+    )?;
+    line::begin(rt, 22)?;
+    let away = changed(most(), Stand(0, 1));
+    ask_near(rt, away)?;
+    ask_near(rt, changed(away, Weight(0, 7)))
 }
 
 // Weights at the ends of their range and past them; that of a call, and that of a stand, above the others.
-pub(crate) fn weights(rt: &impl Print) {
-    line::begin(rt, 23);
-    case(rt, MOST, 16, 256, NONE, 0, 0, 2, 1, 0, 0);
-    case(rt, -MOST, 16, 256, NONE, 0, 0, 2, 1, 0, 0);
-    case(rt, OVER, 16, 256, NONE, 0, 0, 2, 1, 0, 0);
-    case(rt, -OVER, 16, 256, NONE, 0, 0, 2, 1, 0, 0);
-    case(rt, 0, 16, 256, WEIGHT, 271, 1, 2, 1, 0, 0);
-    case(rt, 0, 16, 256, WEIGHT, 15, 1, 2, 1, 0, 0);
+pub(crate) fn weights(rt: &impl Print) -> io::Result<()> {
+    line::begin(rt, 23)?;
+    ask_near(rt, full(MOST, 16, 256))?;
+    ask_near(rt, full(-MOST, 16, 256))?;
+    ask_near(rt, full(OVER, 16, 256))?;
+    ask_near(rt, full(-OVER, 16, 256))?;
+    ask_near(rt, changed(most(), Weight(271, 1)))?;
+    ask_near(rt, changed(most(), Weight(15, 1)))
 }
 
 // The most metres that a crane may have after 256 calls, and one more. Then one crane without calls: a metre of its own; and no metres within
 // any limit past it, with a number above it sent.
-pub(crate) fn metres(rt: &impl Print) {
-    let idle = changed(full(0, 1, 0), PLAN, 0, 0);
-    line::begin(rt, 24);
-    case(rt, 0, 16, 256, DRIVEN, 15, LONGEST, 2, 1, 0, 0);
-    case(rt, 0, 16, 256, DRIVEN, 15, LONGER, 2, 1, 0, 0);
-    against(rt, changed(idle, DRIVEN, 0, 1), 2, 1, 0, 0);
-    against(rt, changed(idle, DRIVEN, 1, 4_294_967_295), 2, 1, 0, 1);
+pub(crate) fn metres(rt: &impl Print) -> io::Result<()> {
+    let idle = changed(full(0, 1, 0), Follower(0, 0));
+    line::begin(rt, 24)?;
+    ask_near(rt, changed(most(), Driven(15, LONGEST)))?;
+    ask_near(rt, changed(most(), Driven(15, LONGER)))?;
+    ask_near(rt, changed(idle, Driven(0, 1)))?;
+    ask(
+        rt,
+        changed(idle, Driven(1, u32::MAX)),
+        Question {
+            crane: 1,
+            ..over(2, &[7])
+        },
+    )
 }
 
 // 3 before 6, of the places and of a run that is too short or too long; 6 before 7, 7 before 4, 4 before 5, 5 before 8, 8 before 9, 9 before 10,
 // 10 before 13. Then 13 before 5 of the call's place, that before 12, 12 before 7, and 7.
-pub(crate) fn order(rt: &impl Print) {
-    line::begin(rt, 25);
-    case(rt, 0, 0, 256, NONE, 0, 0, 0, 0, 0, 0);
-    case(rt, 0, 0, 256, NONE, 0, 0, 3, 2, 0, 0);
-    case(rt, 0, 17, 256, NONE, 0, 0, 3, 4, 0, 0);
-    case(rt, 0, 17, 257, NONE, 0, 0, 2, 1, 0, 0);
-    broken(rt, 257, NONE, 0, 0, 1_000_001);
-    broken(rt, 256, STAND, 0, 3, 1_000_001);
-    broken(rt, 256, STAND, 0, 3, 26);
-    broken(rt, 256, PLAN, 1, 2, 26);
-    case(rt, OVER, 16, 256, PLAN, 1, 2, 2, 1, 0, 0);
-    case(rt, OVER, 16, 256, DRIVEN, 15, LONGER, 2, 1, 2, 0);
-    case(rt, 0, 16, 256, DRIVEN, 15, LONGER, 2, 1, 2, 16);
-    case(rt, 0, 16, 256, NONE, 0, 0, 2, 1, 2, 16);
-    case(rt, 0, 16, 256, NONE, 0, 0, 2, 1, 0, 16);
-    case(rt, 0, 16, 256, NONE, 0, 0, 2, 1, 0, 15);
+pub(crate) fn order(rt: &impl Print) -> io::Result<()> {
+    line::begin(rt, 25)?;
+    ask(rt, full(0, 0, 256), over(0, &[]))?;
+    ask(rt, full(0, 0, 256), over(3, &[7; 2]))?;
+    ask(rt, full(0, 17, 256), over(3, &[7; 4]))?;
+    ask_near(rt, full(0, 17, 257))?;
+    ask_broken(rt, full(0, 16, 257), 1_000_001)?;
+    ask_broken(rt, changed(most(), Stand(0, 3)), 1_000_001)?;
+    ask_broken(rt, changed(most(), Stand(0, 3)), 26)?;
+    ask_broken(rt, changed(most(), Follower(1, 2)), 26)?;
+    ask_near(rt, changed(full(OVER, 16, 256), Follower(1, 2)))?;
+    let near = over(2, &[7]);
+    let longer = changed(most(), Driven(15, LONGER));
+    ask(
+        rt,
+        changed(full(OVER, 16, 256), Driven(15, LONGER)),
+        Question { place: 2, ..near },
+    )?;
+    ask(
+        rt,
+        longer,
+        Question {
+            place: 2,
+            crane: 16,
+            ..near
+        },
+    )?;
+    ask(
+        rt,
+        most(),
+        Question {
+            place: 2,
+            crane: 16,
+            ..near
+        },
+    )?;
+    ask(rt, most(), Question { crane: 16, ..near })?;
+    ask(rt, most(), Question { crane: 15, ..near })
 }
 
 // Books with space for the call: one crane, sent itself, and numbers above it; sixteen cranes, the last one sent, and the number above it.
-pub(crate) fn cranes(rt: &impl Print) {
-    line::begin(rt, 26);
-    case(rt, 3, 1, 0, PLAN, 0, 0, 2, 1, 1, 0);
-    case(rt, 3, 1, 0, PLAN, 0, 0, 2, 1, 1, 1);
-    case(rt, 3, 1, 0, PLAN, 0, 0, 2, 1, 1, 18_446_744_073_709_551_615);
-    case(rt, 0, 16, 255, PLAN, 270, 0, 2, 1, 1, 15);
-    case(rt, 0, 16, 255, PLAN, 270, 0, 2, 1, 1, 16);
+pub(crate) fn cranes(rt: &impl Print) -> io::Result<()> {
+    let away = Question {
+        place: 1,
+        ..over(2, &[7])
+    };
+    let last = changed(full(0, 16, 255), Follower(270, 0));
+    line::begin(rt, 26)?;
+    ask(rt, alone(), away)?;
+    ask(rt, alone(), Question { crane: 1, ..away })?;
+    ask(
+        rt,
+        alone(),
+        Question {
+            crane: usize::MAX,
+            ..away
+        },
+    )?;
+    ask(rt, last, Question { crane: 15, ..away })?;
+    ask(rt, last, Question { crane: 16, ..away })
 }
 
-// A fresh book, and the books of zeros that a day refused by 8 opens, and one refused by 3.
-pub(crate) fn fresh(rt: &impl Print, table: &[u32], broken: &[u32], short: &[u32]) {
-    let day = days::day(3, 2, 3, 2, 1);
-    let opening = Book::fresh(day, table);
-    let crossed = Book::fresh(day, broken);
-    let shorter = Book::fresh(day, short);
-    line::begin(rt, 27);
-    let book = opening.book;
-    ask(rt, book, 3, table, 0, 0);
-    ask(rt, crossed.book, 3, table, 0, 0);
-    ask(rt, shorter.book, 3, table, 0, 0);
-    line::begin(rt, 28);
-    ask(rt, calls::filled(rt, book, table), 3, table, 0, 0);
-    ask(rt, calls::sent(&[7]), 2, &[7], 0, 0);
+// A fresh book, and books of zeros in place of that of a day refused by 8, and of one refused by 3.
+pub(crate) fn fresh(rt: &impl Print) -> io::Result<()> {
+    let book = told::fresh(A.day(), &LEGS).unwrap_or(entries::ZEROS);
+    let crossed = told::fresh(A.day(), &BROKEN).unwrap_or(entries::ZEROS);
+    let shorter = told::fresh(A.day(), &SHORT).unwrap_or(entries::ZEROS);
+    line::begin(rt, 27)?;
+    ask(rt, book, over(3, &LEGS))?;
+    ask(rt, crossed, over(3, &LEGS))?;
+    ask(rt, shorter, over(3, &LEGS))?;
+    line::begin(rt, 28)?;
+    let filled = calls::filled(rt, book)?;
+    ask(rt, filled, over(3, &LEGS))?;
+    ask_near(rt, calls::sent_in_turn())
 }

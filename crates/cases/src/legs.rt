@@ -1,15 +1,23 @@
 // The pairs of places of legs: all legs one after another, beside their index, their pair and the two tables; then numbers that are no leg's
 // index, and pairs that are no leg.
-use crate::line;
-use legorder::Pair;
+use crate::{line, told};
+use base::Refusal;
+use legorder::{Columns, Pair};
 use road::Road;
+use std::io;
 
 // The first number that is not looked at as a place.
 const END: u16 = 66;
 
+// The first leg.
+pub(crate) const FIRST: Pair = Pair {
+    first: 0,
+    second: 1,
+};
+
 // The leg after a leg: by second place, then by first.
 pub(crate) fn after(leg: Pair) -> Pair {
-    let first = std::num::wrapping_add_u16(leg.first, 1);
+    let first = leg.first.wrapping_add(1);
     if first < leg.second {
         return Pair {
             first,
@@ -18,148 +26,115 @@ pub(crate) fn after(leg: Pair) -> Pair {
     }
     Pair {
         first: 0,
-        second: std::num::wrapping_add_u16(leg.second, 1),
+        second: leg.second.wrapping_add(1),
     }
 }
 
-// 1 if a thing holds, else 0.
-fn one(holds: bool) -> u64 {
-    if holds {
-        return 1;
+// All legs in order.
+fn all() -> [Pair; Road::LEGS] {
+    let mut legs = [FIRST; Road::LEGS];
+    let mut leg = FIRST;
+    for entry in legs.iter_mut() {
+        *entry = leg;
+        leg = after(leg);
     }
-    0
+    legs
+}
+
+// Whether two legs are the same.
+fn same(a: Pair, b: Pair) -> bool {
+    (a.first == b.first) & (a.second == b.second)
 }
 
 // Whether the leg is found by its index.
 fn found(index: usize, leg: Pair) -> bool {
-    let told = pairs::pair_at(index);
-    let verdict = told.verdict;
-    let pair = told.pair;
-    (base::number(verdict) == 0) & (pair.first == leg.first) & (pair.second == leg.second)
+    told::pair_at(index).is_ok_and(|pair| same(pair, leg))
 }
 
 // Whether the index is found by the leg.
 fn placed(index: usize, leg: Pair) -> bool {
-    let told = pairs::index_of(leg.first, leg.second);
-    let verdict = told.verdict;
-    (base::number(verdict) == 0) & (told.index == index)
-}
-
-// Whether two columns have the leg at its index.
-fn listed(index: usize, leg: Pair, firsts: &[u16], seconds: &[u16]) -> bool {
-    if firsts.len() <= index {
-        return false;
-    }
-    if seconds.len() <= index {
-        return false;
-    }
-    (firsts[index] == leg.first) & (seconds[index] == leg.second)
+    told::index_of(leg.first, leg.second).is_ok_and(|told| told == index)
 }
 
 // How many legs are found by their index, and how many indices by their leg.
-fn lookups(rt: &impl Print) {
-    let mut leg = Pair {
-        first: 0,
-        second: 1,
-    };
-    let mut legs = 0;
-    let mut indices = 0;
-    for index in 0..Road::LEGS {
-        legs = std::num::wrapping_add_u64(legs, one(found(index, leg)));
-        indices = std::num::wrapping_add_u64(indices, one(placed(index, leg)));
-        leg = after(leg);
-    }
-    line::number(rt, legs);
-    line::number(rt, indices);
+fn lookups(rt: &impl Print, legs: &[Pair]) -> io::Result<()> {
+    let by_index = legs
+        .iter()
+        .enumerate()
+        .filter(|&(index, &leg)| found(index, leg))
+        .count();
+    let by_leg = legs
+        .iter()
+        .enumerate()
+        .filter(|&(index, &leg)| placed(index, leg))
+        .count();
+    print!(rt; " {by_index} {by_leg}")
 }
 
 // How many legs two columns have at their index.
-fn columns(rt: &impl Print, firsts: &[u16], seconds: &[u16]) {
-    let mut leg = Pair {
-        first: 0,
-        second: 1,
-    };
-    let mut legs = 0;
-    for index in 0..Road::LEGS {
-        legs = std::num::wrapping_add_u64(legs, one(listed(index, leg, firsts, seconds)));
-        leg = after(leg);
-    }
-    line::number(rt, legs);
+fn listed(rt: &impl Print, legs: &[Pair], columns: Columns) -> io::Result<()> {
+    let places = columns.firsts.iter().zip(columns.seconds.iter());
+    let many = legs
+        .iter()
+        .zip(places)
+        .filter(|&(&leg, (&first, &second))| same(leg, Pair { first, second }))
+        .count();
+    print!(rt; " {many}")
 }
 
 // The pair at an index.
-fn at(rt: &impl Print, index: usize) {
-    let told = pairs::pair_at(index);
-    let verdict = told.verdict;
-    let pair = told.pair;
-    line::verdict(rt, verdict);
-    line::number(rt, pair.first as u64);
-    line::number(rt, pair.second as u64);
-    line::comma(rt);
+fn at(rt: &impl Print, index: usize) -> io::Result<()> {
+    match told::pair_at(index) {
+        Ok(pair) => print!(rt; " 0 {} {},", pair.first, pair.second),
+        Err(refusal) => print!(rt; " {} 0 0,", told::number(refusal)),
+    }
 }
 
 // The index of a pair.
-fn of(rt: &impl Print, first: u16, second: u16) {
-    let told = pairs::index_of(first, second);
-    let verdict = told.verdict;
-    line::verdict(rt, verdict);
-    line::number(rt, told.index as u64);
-    line::comma(rt);
+fn of(rt: &impl Print, first: u16, second: u16) -> io::Result<()> {
+    let found = told::index_of(first, second);
+    print!(rt; " {} {},", told::code(found), found.unwrap_or(0))
 }
 
-// Whether a pair is refused by 5, with the index 0.
+// Whether a pair is refused by 5.
 fn refuses(first: u16, second: u16) -> bool {
-    let told = pairs::index_of(first, second);
-    let verdict = told.verdict;
-    (base::number(verdict) == 5) & (told.index == 0)
-}
-
-// How many of the pairs with this second place are refused.
-fn refused_to(second: u16) -> u64 {
-    let mut count = 0;
-    for first in 0..END {
-        count = std::num::wrapping_add_u64(count, one(refuses(first, second)));
-    }
-    count
+    matches!(told::index_of(first, second), Err(Refusal::Place))
 }
 
 // How many of the pairs of numbers below `END` are refused.
-fn refused(rt: &impl Print) {
-    let mut count = 0;
+fn refused(rt: &impl Print) -> io::Result<()> {
+    let mut count = 0u64;
     for second in 0..END {
-        count = std::num::wrapping_add_u64(count, refused_to(second));
+        for first in 0..END {
+            count = count.wrapping_add(u64::from(refuses(first, second)));
+        }
     }
-    line::number(rt, count);
+    print!(rt; " {count}")
 }
 
 // Every leg by its index, by its pair, in the table that is held and in the one that is worked out.
-pub(crate) fn each(rt: &impl Print) {
-    let held = pairs::held();
-    let held_firsts = held.firsts;
-    let held_seconds = held.seconds;
-    let worked = legorder::generate();
-    let firsts = worked.firsts;
-    let seconds = worked.seconds;
-    line::begin(rt, 38);
-    lookups(rt);
-    columns(rt, &held_firsts, &held_seconds);
-    columns(rt, &firsts, &seconds);
+pub(crate) fn each(rt: &impl Print) -> io::Result<()> {
+    let legs = all();
+    line::begin(rt, 38)?;
+    lookups(rt, &legs)?;
+    listed(rt, &legs, pairs::held())?;
+    listed(rt, &legs, legorder::generate())
 }
 
 // Some indices and some pairs, and how many pairs are refused.
-pub(crate) fn some(rt: &impl Print) {
-    line::begin(rt, 39);
-    at(rt, 1_500);
-    at(rt, 2_015);
-    at(rt, 2_016);
-    at(rt, 18_446_744_073_709_551_615);
-    line::begin(rt, 40);
-    of(rt, 15, 55);
-    of(rt, 62, 63);
-    of(rt, 3, 3);
-    of(rt, 4, 3);
-    of(rt, 0, 64);
-    of(rt, 0, 65_535);
-    line::begin(rt, 41);
-    refused(rt);
+pub(crate) fn some(rt: &impl Print) -> io::Result<()> {
+    line::begin(rt, 39)?;
+    at(rt, 1_500)?;
+    at(rt, 2_015)?;
+    at(rt, 2_016)?;
+    at(rt, usize::MAX)?;
+    line::begin(rt, 40)?;
+    of(rt, 15, 55)?;
+    of(rt, 62, 63)?;
+    of(rt, 3, 3)?;
+    of(rt, 4, 3)?;
+    of(rt, 0, 64)?;
+    of(rt, 0, u16::MAX)?;
+    line::begin(rt, 41)?;
+    refused(rt)
 }

@@ -1,39 +1,26 @@
-// Lines of text and numbers on standard output.
-use base::Verdict;
-
-pub(crate) fn text(rt: &impl Print, bytes: &[u8]) {
-    let _ = rt.write_all(bytes);
-}
+// What all cases share: the head of a line, and lists that are alike from an index on.
+use std::io;
 
 // A new line, for the cases of a number in the legend.
-pub(crate) fn begin(rt: &impl Print, number: u64) {
-    text(rt, b"\n");
-    let _ = rt.print(number);
-    text(rt, b":");
+pub(crate) fn begin(rt: &impl Print, number: u64) -> io::Result<()> {
+    print!(rt; "\n{number}:")
 }
 
-// Between two cases.
-pub(crate) fn comma(rt: &impl Print) {
-    text(rt, b",");
+// Whether every entry from an index on is this one.
+pub(crate) fn rest_is<T: Copy + PartialEq>(value: T, list: &[T], from: usize) -> bool {
+    list.iter().skip(from).all(|&entry| entry == value)
 }
 
-// A space and a number.
-pub(crate) fn number(rt: &impl Print, number: u64) {
-    text(rt, b" ");
-    let _ = rt.print(number);
-}
-
-// A space and a number that may be below 0: then a minus sign, and how far below.
-pub(crate) fn signed(rt: &impl Print, value: i64) {
-    if value < 0 {
-        text(rt, b" -");
-        let _ = rt.print((-1 - value) as u64 + 1);
-        return;
+// Sets an entry, where the list has it.
+pub(crate) fn set<T: Copy>(list: &mut [T], at: usize, value: T) {
+    if let Some(entry) = list.get_mut(at) {
+        *entry = value;
     }
-    number(rt, value as u64);
 }
 
-// Document 01's number of a verdict.
-pub(crate) fn verdict(rt: &impl Print, verdict: Verdict) {
-    number(rt, base::number(verdict) as u64);
+// Sets every entry from an index on.
+pub(crate) fn set_rest<T: Copy>(list: &mut [T], from: usize, value: T) {
+    for entry in list.iter_mut().skip(from) {
+        *entry = value;
+    }
 }
