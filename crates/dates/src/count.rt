@@ -72,12 +72,23 @@ fn ascending() -> usize {
         .count()
 }
 
-// How many dates of the years 1500 to 10099, the months 0 to 15 and the days 0 to 63 are accepted.
-fn accepted() -> usize {
-    (1_500..10_100)
-        .flat_map(|year| (0..16).flat_map(move |month| (0..64).map(move |day| Date { year, month, day })))
+// How many dates of a year are accepted, of the months 0 to 15 and of the days 0 to 63.
+fn accepted_of(year: u16) -> usize {
+    (0u64..1_024)
+        .map(|i| Date {
+            year,
+            month: (i / 64 % 16) as u8,
+            day: (i % 64) as u8,
+        })
         .filter(|&date| tested(date) == 0)
         .count()
+}
+
+// How many of them are accepted of the years 1500 to 10099.
+fn accepted() -> usize {
+    (1_500..10_100)
+        .map(accepted_of)
+        .fold(0usize, |sum, year| sum.wrapping_add(year))
 }
 
 // How many days the years 1583 to 9999 have by the count.

@@ -68,8 +68,12 @@ impl Walk {
 
     // How many dates of the two years have the right table.
     fn right(self) -> usize {
-        let leap = (0..366).filter(|&index| self.is_right_in_leap(index)).count();
-        let common = (0..366).filter(|&index| self.is_right_in_common(index)).count();
+        let leap = (0..366)
+            .filter(|&index| self.is_right_in_leap(index))
+            .count();
+        let common = (0..366)
+            .filter(|&index| self.is_right_in_common(index))
+            .count();
         leap.wrapping_add(common)
     }
 }
