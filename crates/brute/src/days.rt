@@ -2,166 +2,260 @@
 ghost use Rattle.std.specs.Prelude.{◌<◌};
 
 use crate::roads::Square;
+use crate::sheets::Posted;
+use crate::small::{Counts, Source};
 use crate::tally::{Group, Others, Tally};
-use crate::{roads, search, sheets, small};
+use crate::{search, small, told};
 use dayfile::Day;
+use std::fmt;
 
 // Whether a day over a run is refused by a number, served and as a sheet.
-fn refused(day: Day, run: &[u32], number: u8) -> bool {
-    let served = search::served(day, run);
-    let verdict = served.verdict;
-    (base::number(verdict) == number) & sheets::refused(sheets::write(day, run), number)
+fn is_refused(day: Day, run: &[u32], number: u8) -> bool {
+    told::is_refused(told::served(day, run), number) && Posted::new(day, run).is_refused(number)
 }
 
 // Whether a day of three places with legs that break the triangle rule is refused by 8; and by 3, which comes before 8, with one leg fewer
 // and with one number more.
-fn refused_all(day: Day, square: &Square) -> bool {
-    let legs = roads::legs(square);
-    refused(day, roads::front(&legs, 3), 8)
-        & refused(day, roads::front(&legs, 2), 3)
-        & refused(day, roads::front(&legs, 4), 3)
+fn is_refused_rightly(day: Day, square: &Square) -> bool {
+    let legs = square.legs();
+    is_refused(day, legs.front(3), 8)
+        && is_refused(day, legs.front(2), 3)
+        && is_refused(day, legs.front(4), 3)
 }
 
 // The small day of a number too. Its legs need not keep the triangle rule: then it has three places, and must be refused.
 fn add(before: Group, day: Day, square: &Square, number: usize) -> Group {
-    if small::metric(square, day.places) {
-        let sides = search::day(day, square);
-        let other = search::day_by_others(day, square, number);
-        return before.add(sides.agree, other.agree, other.others);
+    if square.is_metric(day.places) {
+        return before.add(
+            search::quoted(day, square),
+            search::others(day, square, number),
+        );
     }
-    let quoted = before.quoted;
-    let others = before.others;
     Group {
-        quoted: quoted.add(refused_all(day, square)),
-        others,
+        quoted: before.quoted.add(is_refused_rightly(day, square)),
+        ..before
     }
 }
 
-// The day of a number of a size too: with legs of metres below a bound, and with so many squares and lists of starts.
-fn add_counted(
-    before: Group,
-    places: usize,
-    cranes: usize,
-    calls: usize,
-    bound: u64,
-    squares: usize,
-    starts: usize,
-    number: usize,
-) -> Group
-    requires { (0 < places) × ((0 < bound) × ((0 < squares) × (0 < starts))) }
-{
-    let square = small::five(small::counted(number % squares), bound, false);
-    let first = small::counted(number / squares % starts);
-    let asked = small::counted(number / squares / starts);
-    let day = small::day(places, cranes, calls, first, asked, places as u64);
-    add(before, day, &square, number)
-}
-
-// All days of a size, which are so many.
-fn every(
-    before: Group,
-    places: usize,
-    cranes: usize,
-    calls: usize,
+// All days of these counts with legs of metres below a bound: so many squares, lists of starts, and days.
+#[derive(Clone, Copy)]
+struct Every {
+    counts: Counts,
     bound: u64,
     squares: usize,
     starts: usize,
     days: usize,
-) -> Group
-    requires { (0 < places) × ((0 < bound) × ((0 < squares) × (0 < starts))) }
-{
-    let mut group = before;
-    for i in 0..days {
-        group = add_counted(group, places, cranes, calls, bound, squares, starts, i);
+    ghost some: { (0 < bound) × ((0 < squares) × (0 < starts)) },
+}
+
+impl Every {
+    // The day of a number too.
+    fn add(self, before: Group, number: usize) -> Group {
+        let square = small::five(Source::digits(number % self.squares), self.bound);
+        let first = Source::digits(number / self.squares % self.starts);
+        let asked = Source::digits(number / self.squares / self.starts);
+        let day = self.counts.day(first, asked, self.counts.places as u64);
+        add(before, day, &square, number)
     }
-    group
+
+    // All of them too.
+    fn all(self, before: Group) -> Group {
+        (0..self.days).fold(before, |group, number| self.add(group, number))
+    }
 }
 
 // Every day of six sizes.
+const SIZES: [Every; 6] = [
+    Every {
+        counts: Counts {
+            places: 1,
+            cranes: 1,
+            calls: 6,
+        },
+        bound: 1,
+        squares: 1,
+        starts: 1,
+        days: 1,
+    },
+    Every {
+        counts: Counts {
+            places: 2,
+            cranes: 2,
+            calls: 6,
+        },
+        bound: 3,
+        squares: 3,
+        starts: 4,
+        days: 768,
+    },
+    Every {
+        counts: Counts {
+            places: 2,
+            cranes: 3,
+            calls: 4,
+        },
+        bound: 4,
+        squares: 4,
+        starts: 8,
+        days: 512,
+    },
+    Every {
+        counts: Counts {
+            places: 3,
+            cranes: 1,
+            calls: 3,
+        },
+        bound: 3,
+        squares: 27,
+        starts: 3,
+        days: 2_187,
+    },
+    Every {
+        counts: Counts {
+            places: 3,
+            cranes: 2,
+            calls: 3,
+        },
+        bound: 4,
+        squares: 64,
+        starts: 9,
+        days: 15_552,
+    },
+    Every {
+        counts: Counts {
+            places: 3,
+            cranes: 3,
+            calls: 2,
+        },
+        bound: 3,
+        squares: 27,
+        starts: 27,
+        days: 6_561,
+    },
+];
+
+// Every day of these sizes.
 pub(crate) fn all() -> Group {
-    let one = every(Group::none(), 1, 1, 6, 1, 1, 1, 1);
-    let two = every(every(one, 2, 2, 6, 3, 3, 4, 768), 2, 3, 4, 4, 4, 8, 512);
-    let three = every(two, 3, 1, 3, 3, 27, 3, 2_187);
-    every(
-        every(three, 3, 2, 3, 4, 64, 9, 15_552),
-        3,
-        3,
-        2,
-        3,
-        27,
-        27,
-        6_561,
-    )
+    SIZES
+        .iter()
+        .fold(Group::NONE, |group, size| size.all(group))
 }
 
 // Random days by the quoted cranes, those without a call at which two cranes had the same sum and those with one; and by others.
 #[derive(Clone, Copy)]
 pub struct Drawn {
-    pub plain: Tally,
-    pub tied: Tally,
-    pub others: Others,
+    plain: Tally,
+    tied: Tally,
+    others: Others,
 }
 
-// One day more.
-fn counted(drawn: Drawn, tied: bool, agree: bool, others: Others) -> Drawn {
-    let plain = drawn.plain;
-    let with = drawn.tied;
-    if tied {
-        return Drawn {
+impl fmt::Display for Drawn {
+    fn fmt<W: fmt::Write>(&self, f: &mut fmt::Formatter<W>) -> fmt::Result {
+        let Drawn {
             plain,
-            tied: with.add(agree),
+            tied,
             others,
+        } = self;
+        writeln!(f, "random days without equal sums: {plain}")?;
+        writeln!(f, "random days with equal sums: {tied}")?;
+        writeln!(f, "random days by other cranes: {others}")
+    }
+}
+
+// So many random days of a size, with legs of metres below a bound before the shortest ways are taken.
+#[derive(Clone, Copy)]
+struct Sample {
+    places: usize,
+    cranes: usize,
+    bound: u64,
+    days: usize,
+    ghost some: { (0 < places) × (0 < bound) },
+}
+
+impl Sample {
+    // The random day of a number too.
+    fn add(self, before: Drawn, number: usize) -> Drawn {
+        let counts = Counts {
+            places: self.places,
+            cranes: self.cranes,
+            calls: 6,
         };
+        let square = counts.drawn_square(number, self.bound);
+        let day = counts.drawn_day(number);
+        let quoted = search::quoted(day, &square);
+        let others = before.others.add(search::others(day, &square, number));
+        if quoted.tied {
+            return Drawn {
+                tied: before.tied.add(quoted.agree),
+                others,
+                ..before
+            };
+        }
+        Drawn {
+            plain: before.plain.add(quoted.agree),
+            others,
+            ..before
+        }
     }
-    Drawn {
-        plain: plain.add(agree),
-        tied: with,
-        others,
-    }
-}
 
-// The random day of a number of a size too, with legs of metres below a bound before the shortest ways are taken.
-fn add_drawn(before: Drawn, places: usize, cranes: usize, bound: u64, number: usize) -> Drawn
-    requires { (0 < places) × (0 < bound) }
-{
-    let square = small::drawn_square(number, places, bound, false);
-    let day = small::drawn_day(number, places, cranes, 6);
-    let sides = search::day(day, &square);
-    let other = search::day_by_others(day, &square, number);
-    let others = before.others;
-    counted(
-        before,
-        sides.tied,
-        sides.agree,
-        others.add(other.agree, other.others),
-    )
-}
-
-// So many random days of a size too.
-fn some(before: Drawn, places: usize, cranes: usize, bound: u64, days: usize) -> Drawn
-    requires { (0 < places) × (0 < bound) }
-{
-    let mut all = before;
-    for i in 0..days {
-        all = add_drawn(all, places, cranes, bound, i);
+    // All of them too.
+    fn all(self, before: Drawn) -> Drawn {
+        (0..self.days).fold(before, |drawn, number| self.add(drawn, number))
     }
-    all
 }
 
 // Random days of seven sizes.
+const RANDOM: [Sample; 7] = [
+    Sample {
+        places: 5,
+        cranes: 4,
+        bound: 6,
+        days: 120,
+    },
+    Sample {
+        places: 5,
+        cranes: 4,
+        bound: 1_000,
+        days: 120,
+    },
+    Sample {
+        places: 5,
+        cranes: 4,
+        bound: 100_000,
+        days: 120,
+    },
+    Sample {
+        places: 5,
+        cranes: 2,
+        bound: 100,
+        days: 300,
+    },
+    Sample {
+        places: 5,
+        cranes: 1,
+        bound: 1_000,
+        days: 300,
+    },
+    Sample {
+        places: 4,
+        cranes: 3,
+        bound: 5,
+        days: 300,
+    },
+    Sample {
+        places: 3,
+        cranes: 4,
+        bound: 4,
+        days: 300,
+    },
+];
+
+// All of them.
 pub(crate) fn random() -> Drawn {
     let none = Drawn {
-        plain: Tally::none(),
-        tied: Tally::none(),
-        others: Others::none(),
+        plain: Tally::NONE,
+        tied: Tally::NONE,
+        others: Others::NONE,
     };
-    let four = some(
-        some(some(none, 5, 4, 6, 120), 5, 4, 1_000, 120),
-        5,
-        4,
-        100_000,
-        120,
-    );
-    let fewer = some(some(four, 5, 2, 100, 300), 5, 1, 1_000, 300);
-    some(some(fewer, 4, 3, 5, 300), 3, 4, 4, 300)
+    RANDOM.iter().fold(none, |drawn, size| size.all(drawn))
 }

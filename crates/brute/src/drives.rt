@@ -3,30 +3,27 @@ use book::Book;
 use dayfile::Day;
 
 // For each crane, by its number, the sum of its drives; 0 past the cranes.
-pub type Drives = [u64; Day::CRANES];
-
-// The sum of a crane.
-fn sum(drives: Drives, crane: usize) -> u64 {
-    drives[crane % Day::CRANES]
+#[derive(Clone, Copy)]
+pub struct Drives {
+    sums: [u64; Day::CRANES],
 }
 
-// The sums with one drive more.
-pub(crate) fn add(drives: Drives, crane: usize, metres: u64) -> Drives {
-    let mut after = drives;
-    after[crane % Day::CRANES] = std::num::wrapping_add_u64(sum(drives, crane), metres);
-    after
-}
+impl Drives {
+    // None yet.
+    pub(crate) const NONE: Drives = Drives {
+        sums: [0; Day::CRANES],
+    };
 
-// What a book has at an index.
-fn entry(book: Book, crane: usize) -> u64 {
-    book.driven[crane % Day::CRANES] as u64
-}
-
-// Whether a book has these sums, and 0 in every entry past the cranes.
-pub(crate) fn alike(book: Book, drives: Drives) -> bool {
-    let mut same = true;
-    for crane in 0..Day::CRANES {
-        same = same & (entry(book, crane) == sum(drives, crane));
+    // The sums with one drive more.
+    pub(crate) fn add(self, crane: usize, metres: u64) -> Self {
+        let mut sums = self.sums;
+        let i = crane % Day::CRANES;
+        sums[i] = sums[i].wrapping_add(metres);
+        Self { sums }
     }
-    same
+
+    // Whether a book has these sums, and 0 in every entry past the cranes.
+    pub(crate) fn are_in(&self, book: &Book) -> bool {
+        book.driven.map(u64::from) == self.sums
+    }
 }

@@ -18,58 +18,28 @@ mod search;
 mod sheets;
 mod small;
 mod tally;
+mod told;
 
+use std::io;
 use tally::Group;
 
-// A group's two lines.
-fn print(rt: &impl Print, group: Group, quoted: &[u8], others: &[u8]) {
-    let first = group.quoted;
-    first.print(rt, quoted);
-    let second = group.others;
-    second.print(rt, others);
+// Prints every line: document 01's days, every small day, random days, and those whose book comes back with other weights, and with other
+// entries past the counts.
+fn print(rt: &impl Print) -> io::Result<()> {
+    let Group { quoted, others } = edges::all(rt)?;
+    println!(rt; "edges and wrong turns: {quoted}")?;
+    println!(rt; "edges by other cranes: {others}")?;
+    let Group { quoted, others } = days::all();
+    println!(rt; "every small day: {quoted}")?;
+    println!(rt; "small days by other cranes: {others}")?;
+    print!(rt; "{}", days::random())?;
+    let Group { quoted, others } = restored::all();
+    println!(rt; "restored books: {quoted}")?;
+    println!(rt; "restored books by other cranes: {others}")?;
+    println!(rt; "entries past the counts: {}", past::all())
 }
 
-// Document 01's days, and every small day.
-fn figures(rt: &impl Print) {
-    print(
-        rt,
-        edges::all(rt),
-        b"edges and wrong turns",
-        b"edges by other cranes",
-    );
-    print(
-        rt,
-        days::all(),
-        b"every small day",
-        b"small days by other cranes",
-    );
-}
-
-// Random days.
-fn random(rt: &impl Print) {
-    let random = days::random();
-    let plain = random.plain;
-    plain.print(rt, b"random days without equal sums");
-    let tied = random.tied;
-    tied.print(rt, b"random days with equal sums");
-    let others = random.others;
-    others.print(rt, b"random days by other cranes");
-}
-
-// Random days whose book comes back with other weights, and with other entries past the counts.
-fn changed(rt: &impl Print) {
-    print(
-        rt,
-        restored::all(),
-        b"restored books",
-        b"restored books by other cranes",
-    );
-    let past = past::all();
-    past.print(rt, b"entries past the counts");
-}
-
+// A write that fails ends the print, and is not told.
 fn main(rt: HostRuntime) {
-    figures(&rt);
-    random(&rt);
-    changed(&rt);
+    let _ = print(&rt);
 }

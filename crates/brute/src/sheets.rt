@@ -1,8 +1,8 @@
 // The sheet of a small day, byte by byte beside the figures of the brute search. What must stand at a byte is worked out from its index in
 // the row, which shares nothing with how `sheet` writes one.
-ghost use Rattle.std.specs.Prelude.{◌<◌};
-
 use crate::positions::Sent;
+use crate::told;
+use base::Refusal;
 use dayfile::Day;
 
 // The bytes of a row.
@@ -13,10 +13,6 @@ const ROOM: usize = 180;
 
 // What stands in every byte before.
 const BEFORE: u8 = 9;
-
-const BLANK: u8 = 32;
-
-const LINE_FEED: u8 = 10;
 
 // What a digit at each byte of a row counts, column by column; 0 at the byte behind a column.
 const POWERS: [u64; ROW] = [
@@ -50,82 +46,82 @@ const POWERS: [u64; ROW] = [
     0,
 ];
 
-// What the library gives as the sheet of a day: the number, the length, and the buffer after it.
+// A row by the search: the call, its place, and the crane that is sent.
+#[derive(Clone, Copy)]
+pub struct Row {
+    pub call: usize,
+    pub place: u16,
+    pub sent: Sent,
+}
+
+impl Row {
+    // The number whose digit stands at a byte.
+    fn value(self, at: usize) -> u64 {
+        match at {
+            0..=2 => self.call as u64,
+            3..=5 => u64::from(self.place),
+            6..=8 => self.sent.crane as u64,
+            9..=16 => self.sent.metres,
+            _ => self.sent.least,
+        }
+    }
+
+    // The byte that must stand there, where a digit counts so much.
+    fn byte(self, at: usize, power: u64) -> u8 {
+        if power == 0 {
+            return if at == ROW - 1 { b'\n' } else { b' ' };
+        }
+        let value = self.value(at);
+        if value < power && 1 < power {
+            return b' ';
+        }
+        b'0' + (value / power % 10) as u8
+    }
+}
+
+// What the library gives as the sheet of a day: the length or the refusal, and the buffer after it.
 #[derive(Clone, Copy)]
 pub struct Posted {
-    pub number: u8,
-    pub length: usize,
-    pub bytes: [u8; ROOM],
+    length: Result<usize, Refusal>,
+    bytes: [u8; ROOM],
 }
 
-// The sheet of a small day, into a buffer with bytes to spare.
-pub(crate) fn write(day: Day, run: &[u32]) -> Posted {
-    let mut bytes = [BEFORE; ROOM];
-    let written = sheet::write(day, run, &mut bytes);
-    let verdict = written.verdict;
-    Posted {
-        number: base::number(verdict),
-        length: written.length,
-        bytes,
+impl Posted {
+    // The sheet of a small day, into a buffer with bytes to spare.
+    pub(crate) fn new(day: Day, run: &[u32]) -> Self {
+        let mut bytes = [BEFORE; ROOM];
+        let length = told::sheet(day, run, &mut bytes);
+        Self { length, bytes }
     }
-}
 
-// The number whose digit stands at a byte of the row of call i.
-fn value(i: usize, place: u16, sent: Sent, at: usize) -> u64 {
-    if at < 3 {
-        return i as u64;
+    // Whether the row of a call is the search's.
+    pub(crate) fn has(&self, row: Row) -> bool {
+        self.bytes
+            .chunks_exact(ROW)
+            .nth(row.call)
+            .is_some_and(|bytes| {
+                bytes
+                    .iter()
+                    .zip(&POWERS)
+                    .enumerate()
+                    .all(|(at, (&byte, &power))| byte == row.byte(at, power))
+            })
     }
-    if at < 6 {
-        return place as u64;
-    }
-    if at < 9 {
-        return sent.crane as u64;
-    }
-    if at < 17 { sent.metres } else { sent.least }
-}
 
-// The byte that must stand there.
-fn byte(i: usize, place: u16, sent: Sent, at: usize) -> u8
-    requires { at < 28 }
-{
-    let power = POWERS[at];
-    if power == 0 {
-        return if at == ROW - 1 { LINE_FEED } else { BLANK };
+    // Whether the bytes from an index on are as before.
+    fn is_kept(&self, from: usize) -> bool {
+        self.bytes.iter().skip(from).all(|&byte| byte == BEFORE)
     }
-    let n = value(i, place, sent, at);
-    if (n < power) & (1 < power) {
-        return BLANK;
+
+    // Whether the sheet has so many rows and no byte more.
+    pub(crate) fn ends(&self, calls: usize) -> bool {
+        self.length.is_ok_and(|length| {
+            length / ROW == calls && length % ROW == 0 && self.is_kept(length)
+        })
     }
-    48 + (n / power % 10) as u8
-}
 
-// Whether the row of call i is the search's.
-pub(crate) fn row(posted: Posted, i: usize, place: u16, sent: Sent) -> bool
-    requires { i < 6 }
-{
-    let mut same = true;
-    for at in 0..ROW {
-        same = same & (posted.bytes[ROW * i + at] == byte(i, place, sent, at));
+    // Whether the day is refused by a number, and the buffer is as before.
+    pub(crate) fn is_refused(&self, number: u8) -> bool {
+        told::is_refused(self.length, number) && self.is_kept(0)
     }
-    same
-}
-
-// Whether the bytes from an index on are as before.
-fn kept(posted: Posted, from: usize) -> bool {
-    let mut same = true;
-    for at in 0..ROOM {
-        same = same & ((at < from) | (posted.bytes[at] == BEFORE));
-    }
-    same
-}
-
-// Whether the sheet has so many rows and no byte more.
-pub(crate) fn ends(posted: Posted, calls: usize) -> bool {
-    let length = posted.length;
-    (posted.number == 0) & (length / ROW == calls) & (length % ROW == 0) & kept(posted, length)
-}
-
-// Whether the day is refused by a number, and the buffer is as before.
-pub(crate) fn refused(posted: Posted, number: u8) -> bool {
-    (posted.number == number) & (posted.length == 0) & kept(posted, 0)
 }

@@ -1,71 +1,75 @@
 // How many cases of a group were tried, and how many of them agree; the same by other cranes than the quoted ones.
+use std::fmt;
+
+// What became of a day: whether every figure agreed, whether two cranes had the same sum at some call, and how many calls had another crane
+// than the quoted one.
+#[derive(Clone, Copy)]
+pub struct Outcome {
+    pub agree: bool,
+    pub tied: bool,
+    pub others: u64,
+}
+
+impl Outcome {
+    // Of a day that the library refuses.
+    pub(crate) const REFUSED: Outcome = Outcome {
+        agree: false,
+        tied: false,
+        others: 0,
+    };
+}
 
 #[derive(Clone, Copy)]
 pub struct Tally {
-    pub tried: u64,
-    pub agree: u64,
+    tried: u64,
+    agree: u64,
 }
 
 impl Tally {
-    pub(crate) fn none() -> Self {
-        Self { tried: 0, agree: 0 }
-    }
+    pub(crate) const NONE: Tally = Tally { tried: 0, agree: 0 };
 
     // One case more.
     pub(crate) fn add(self, agrees: bool) -> Self {
         Self {
-            tried: std::num::wrapping_add_u64(self.tried, 1),
-            agree: std::num::wrapping_add_u64(self.agree, agrees as u64),
+            tried: self.tried.wrapping_add(1),
+            agree: self.agree.wrapping_add(u64::from(agrees)),
         }
     }
+}
 
-    // The group's name, and the two numbers.
-    fn write(self, rt: &impl Print, name: &[u8]) {
-        let _ = rt.write_all(name);
-        let _ = rt.write_all(b": tried ");
-        let _ = rt.print(self.tried);
-        let _ = rt.write_all(b" agree ");
-        let _ = rt.print(self.agree);
-    }
-
-    // The same as one line.
-    pub(crate) fn print(self, rt: &impl Print, name: &[u8]) {
-        self.write(rt, name);
-        let _ = rt.write_all(b"\n");
+impl fmt::Display for Tally {
+    fn fmt<W: fmt::Write>(&self, f: &mut fmt::Formatter<W>) -> fmt::Result {
+        let Tally { tried, agree } = self;
+        write!(f, "tried {tried} agree {agree}")
     }
 }
 
 // The same of days by other cranes, and how many of their calls had another crane than the quoted one.
 #[derive(Clone, Copy)]
 pub struct Others {
-    pub days: Tally,
-    pub calls: u64,
+    days: Tally,
+    calls: u64,
 }
 
 impl Others {
-    pub(crate) fn none() -> Self {
+    pub(crate) const NONE: Others = Others {
+        days: Tally::NONE,
+        calls: 0,
+    };
+
+    // One day more.
+    pub(crate) fn add(self, day: Outcome) -> Self {
         Self {
-            days: Tally::none(),
-            calls: 0,
+            days: self.days.add(day.agree),
+            calls: self.calls.wrapping_add(day.others),
         }
     }
+}
 
-    // One day more, with so many such calls.
-    pub(crate) fn add(self, agrees: bool, calls: u64) -> Self {
-        let days = self.days;
-        Self {
-            days: days.add(agrees),
-            calls: std::num::wrapping_add_u64(self.calls, calls),
-        }
-    }
-
-    // One line: the group's name, and the three numbers.
-    pub(crate) fn print(self, rt: &impl Print, name: &[u8]) {
-        let days = self.days;
-        days.write(rt, name);
-        let _ = rt.write_all(b" other cranes ");
-        let _ = rt.print(self.calls);
-        let _ = rt.write_all(b"\n");
+impl fmt::Display for Others {
+    fn fmt<W: fmt::Write>(&self, f: &mut fmt::Formatter<W>) -> fmt::Result {
+        let Others { days, calls } = self;
+        write!(f, "{days} other cranes {calls}")
     }
 }
 
@@ -77,20 +81,16 @@ pub struct Group {
 }
 
 impl Group {
-    pub(crate) fn none() -> Self {
-        Self {
-            quoted: Tally::none(),
-            others: Others::none(),
-        }
-    }
+    pub(crate) const NONE: Group = Group {
+        quoted: Tally::NONE,
+        others: Others::NONE,
+    };
 
-    // One day more: whether it agrees by the quoted cranes, and by others at so many calls.
-    pub(crate) fn add(self, quoted: bool, others: bool, calls: u64) -> Self {
-        let first = self.quoted;
-        let second = self.others;
+    // One day more.
+    pub(crate) fn add(self, quoted: Outcome, others: Outcome) -> Self {
         Self {
-            quoted: first.add(quoted),
-            others: second.add(others, calls),
+            quoted: self.quoted.add(quoted.agree),
+            others: self.others.add(others),
         }
     }
 }

@@ -1,208 +1,204 @@
 // Paper 10's cases by name: dates, edges, windows, and the order of the tests.
-use crate::line;
+use crate::told;
 use season::{Date, MonthDay, Window};
+use std::{fmt, io};
 
-// A day and its month.
-fn on(day: u8, month: u8) -> MonthDay {
-    MonthDay { month, day }
-}
+// 29 February.
+const LEAP_DAY: MonthDay = MonthDay { month: 2, day: 29 };
+
+// 1 March to 31 May.
+pub(crate) const SPRING: Window = Window {
+    first: MonthDay { month: 3, day: 1 },
+    last: MonthDay { month: 5, day: 31 },
+};
+
+// 20 December to 10 January.
+const MIDWINTER: Window = Window {
+    first: MonthDay { month: 12, day: 20 },
+    last: MonthDay { month: 1, day: 10 },
+};
+
+// 29 February to 1 March.
+const TO_MARCH: Window = Window {
+    first: LEAP_DAY,
+    last: MonthDay { month: 3, day: 1 },
+};
+
+// 29 February.
+const LEAP_DAY_ALONE: Window = Window {
+    first: LEAP_DAY,
+    last: LEAP_DAY,
+};
 
 // A date.
 pub(crate) fn date(day: u8, month: u8, year: u16) -> Date {
     Date { year, month, day }
 }
 
-// 1 March to 31 May.
-pub(crate) fn spring() -> Window {
-    Window {
-        first: on(1, 3),
-        last: on(31, 5),
+// The number of a date, over one place.
+fn tested(day: u8, month: u8, year: u16) -> u8 {
+    told::tested(1, &[], &[], SPRING, date(day, month, year))
+}
+
+// Leap years, days and months that are not, and the years that count.
+pub(crate) fn dates(rt: &impl Print) -> io::Result<()> {
+    println!(rt;
+        "29 February of 2024, 2023, 1900 and 2000: {} {} {} {}",
+        tested(29, 2, 2_024),
+        tested(29, 2, 2_023),
+        tested(29, 2, 1_900),
+        tested(29, 2, 2_000)
+    )?;
+    println!(rt;
+        "31 April; day 0; months 0 and 13; the highest numbers: {} {} {} {} {}",
+        tested(31, 4, 2_024),
+        tested(0, 4, 2_024),
+        tested(1, 0, 2_024),
+        tested(1, 13, 2_024),
+        tested(255, 255, 65_535)
+    )?;
+    println!(rt;
+        "31 December of 1582, 1 January of 1583; 31 December of 9999, 1 January of 10000: {} {} {} {}",
+        tested(31, 12, 1_582),
+        tested(1, 1, 1_583),
+        tested(31, 12, 9_999),
+        tested(1, 1, 10_000)
+    )
+}
+
+// The numbers with a day as the first of a window, and with it as the last, in a common year.
+#[derive(Clone, Copy)]
+struct Edge {
+    first: u8,
+    last: u8,
+}
+
+impl Edge {
+    fn of(day: u8, month: u8) -> Self {
+        let edge = MonthDay { month, day };
+        let from = Window {
+            first: edge,
+            ..SPRING
+        };
+        let until = Window {
+            last: edge,
+            ..SPRING
+        };
+        Self {
+            first: told::tested(1, &[], &[], from, date(1, 1, 2_023)),
+            last: told::tested(1, &[], &[], until, date(1, 1, 2_023)),
+        }
     }
 }
 
-// The number of a date, over one place.
-fn tested(rt: &impl Print, day: u8, month: u8, year: u16) {
-    line::verdict(
-        rt,
-        season::test(1, &[], &[], spring(), date(day, month, year)),
-    );
-}
-
-// Leap years.
-pub(crate) fn leap_years(rt: &impl Print) {
-    line::begin(rt, b"29 February of 2024, 2023, 1900 and 2000");
-    tested(rt, 29, 2, 2_024);
-    tested(rt, 29, 2, 2_023);
-    tested(rt, 29, 2, 1_900);
-    tested(rt, 29, 2, 2_000);
-    line::end(rt);
-}
-
-// Days and months that are not.
-pub(crate) fn no_dates(rt: &impl Print) {
-    line::begin(rt, b"31 April; day 0; months 0 and 13; the highest numbers");
-    tested(rt, 31, 4, 2_024);
-    tested(rt, 0, 4, 2_024);
-    tested(rt, 1, 0, 2_024);
-    tested(rt, 1, 13, 2_024);
-    tested(rt, 255, 255, 65_535);
-    line::end(rt);
-}
-
-// The years that count.
-pub(crate) fn years(rt: &impl Print) {
-    line::begin(
-        rt,
-        b"31 December of 1582, 1 January of 1583; 31 December of 9999, 1 January of 10000",
-    );
-    tested(rt, 31, 12, 1_582);
-    tested(rt, 1, 1, 1_583);
-    tested(rt, 31, 12, 9_999);
-    tested(rt, 1, 1, 10_000);
-    line::end(rt);
-}
-
-// The number with a day as the first of a window, and with it as the last, in a common year.
-fn edge(rt: &impl Print, day: u8, month: u8) {
-    let from = Window {
-        first: on(day, month),
-        last: on(31, 5),
-    };
-    let until = Window {
-        first: on(1, 3),
-        last: on(day, month),
-    };
-    line::verdict(rt, season::test(1, &[], &[], from, date(1, 1, 2_023)));
-    line::verdict(rt, season::test(1, &[], &[], until, date(1, 1, 2_023)));
-}
-
-pub(crate) fn edges(rt: &impl Print) {
-    line::begin(
-        rt,
-        b"edges, as the first and as the last: 29 February, 30 February, 31 April, day 0, months 0 and 13",
-    );
-    edge(rt, 29, 2);
-    edge(rt, 30, 2);
-    edge(rt, 31, 4);
-    edge(rt, 0, 1);
-    edge(rt, 1, 0);
-    edge(rt, 1, 13);
-    line::end(rt);
+impl fmt::Display for Edge {
+    fn fmt<W: fmt::Write>(&self, f: &mut fmt::Formatter<W>) -> fmt::Result {
+        let Edge { first, last } = self;
+        write!(f, "{first} {last}")
+    }
 }
 
 // The leg of the table that comes back, 10 of the ordinary and 12 of the thaw table; 0 where none does.
 pub(crate) fn leg(window: Window, date: Date) -> u32 {
-    let legs = season::legs(2, &[10], &[12], window, date);
-    if legs.len() < 1 {
-        return 0;
+    season::legs(2, &[10], &[12], window, date)
+        .first()
+        .copied()
+        .unwrap_or(0)
+}
+
+// The leg on a date.
+fn leg_on(window: Window, day: u8, month: u8, year: u16) -> u32 {
+    leg(window, date(day, month, year))
+}
+
+// Edges of windows; windows over the year's end, and with 29 February as an edge.
+pub(crate) fn windows(rt: &impl Print) -> io::Result<()> {
+    println!(rt;
+        "edges, as the first and as the last: 29 February, 30 February, 31 April, day 0, months 0 and 13: {} {} {} {} {} {}",
+        Edge::of(29, 2),
+        Edge::of(30, 2),
+        Edge::of(31, 4),
+        Edge::of(0, 1),
+        Edge::of(1, 0),
+        Edge::of(1, 13)
+    )?;
+    println!(rt;
+        "20 December to 10 January: 19, 20 and 31 December, 1, 10 and 11 January: {} {} {} {} {} {}",
+        leg_on(MIDWINTER, 19, 12, 2_025),
+        leg_on(MIDWINTER, 20, 12, 2_025),
+        leg_on(MIDWINTER, 31, 12, 2_025),
+        leg_on(MIDWINTER, 1, 1, 2_026),
+        leg_on(MIDWINTER, 10, 1, 2_026),
+        leg_on(MIDWINTER, 11, 1, 2_026)
+    )?;
+    println!(rt;
+        "29 February to 1 March: 28 February, 1 and 2 March of 2023; 29 February of 2024: {} {} {} {}",
+        leg_on(TO_MARCH, 28, 2, 2_023),
+        leg_on(TO_MARCH, 1, 3, 2_023),
+        leg_on(TO_MARCH, 2, 3, 2_023),
+        leg_on(TO_MARCH, 29, 2, 2_024)
+    )?;
+    println!(rt;
+        "29 February alone: 28 February and 1 March of 2023; 28 and 29 February and 1 March of 2024; 29 February of 2023: {} {} {} {} {} {}",
+        leg_on(LEAP_DAY_ALONE, 28, 2, 2_023),
+        leg_on(LEAP_DAY_ALONE, 1, 3, 2_023),
+        leg_on(LEAP_DAY_ALONE, 28, 2, 2_024),
+        leg_on(LEAP_DAY_ALONE, 29, 2, 2_024),
+        leg_on(LEAP_DAY_ALONE, 1, 3, 2_024),
+        leg_on(LEAP_DAY_ALONE, 29, 2, 2_023)
+    )
+}
+
+// The number of two tables on a day of April, and how many legs come back.
+#[derive(Clone, Copy)]
+struct Tables {
+    number: u8,
+    legs: usize,
+}
+
+impl Tables {
+    fn on<'a>(day: u8, places: usize, ordinary: &'a [u32], thaw: &'a [u32]) -> Self {
+        let date = date(day, 4, 2_026);
+        Self {
+            number: told::tested(places, ordinary, thaw, SPRING, date),
+            legs: season::legs(places, ordinary, thaw, SPRING, date).len(),
+        }
     }
-    legs[0]
 }
 
-// Prints the leg on a date, the window being that of 20 December to 10 January.
-fn midwinter(rt: &impl Print, day: u8, month: u8, year: u16) {
-    let window = Window {
-        first: on(20, 12),
-        last: on(10, 1),
-    };
-    line::number(rt, leg(window, date(day, month, year)) as u64);
+impl fmt::Display for Tables {
+    fn fmt<W: fmt::Write>(&self, f: &mut fmt::Formatter<W>) -> fmt::Result {
+        let Tables { number, legs } = self;
+        write!(f, "{number} {legs}")
+    }
 }
 
-// The same of the window from 29 February to a day.
-fn leap_day(rt: &impl Print, last: MonthDay, day: u8, month: u8, year: u16) {
-    let window = Window {
-        first: on(29, 2),
-        last,
-    };
-    line::number(rt, leg(window, date(day, month, year)) as u64);
-}
-
-// A window over the year's end.
-pub(crate) fn over(rt: &impl Print) {
-    line::begin(
-        rt,
-        b"20 December to 10 January: 19, 20 and 31 December, 1, 10 and 11 January",
-    );
-    midwinter(rt, 19, 12, 2_025);
-    midwinter(rt, 20, 12, 2_025);
-    midwinter(rt, 31, 12, 2_025);
-    midwinter(rt, 1, 1, 2_026);
-    midwinter(rt, 10, 1, 2_026);
-    midwinter(rt, 11, 1, 2_026);
-    line::end(rt);
-}
-
-// Windows with 29 February as an edge.
-pub(crate) fn leap(rt: &impl Print) {
-    let march = on(1, 3);
-    line::begin(
-        rt,
-        b"29 February to 1 March: 28 February, 1 and 2 March of 2023; 29 February of 2024",
-    );
-    leap_day(rt, march, 28, 2, 2_023);
-    leap_day(rt, march, 1, 3, 2_023);
-    leap_day(rt, march, 2, 3, 2_023);
-    leap_day(rt, march, 29, 2, 2_024);
-    line::end(rt);
-}
-
-pub(crate) fn leap_alone(rt: &impl Print) {
-    let same = on(29, 2);
-    line::begin(
-        rt,
-        b"29 February alone: 28 February and 1 March of 2023; 28 and 29 February and 1 March of 2024; 29 February of 2023",
-    );
-    leap_day(rt, same, 28, 2, 2_023);
-    leap_day(rt, same, 1, 3, 2_023);
-    leap_day(rt, same, 28, 2, 2_024);
-    leap_day(rt, same, 29, 2, 2_024);
-    leap_day(rt, same, 1, 3, 2_024);
-    leap_day(rt, same, 29, 2, 2_023);
-    line::end(rt);
-}
-
-// The number and how many legs come back, on a day of April.
-fn tables<'a>(rt: &impl Print, places: usize, ordinary: &'a [u32], thaw: &'a [u32], day: u8) {
-    let on = date(day, 4, 2_026);
-    line::verdict(rt, season::test(places, ordinary, thaw, spring(), on));
-    let legs = season::legs(places, ordinary, thaw, spring(), on);
-    line::number(rt, legs.len() as u64);
-}
-
-// One place has no legs, accepted or not.
-pub(crate) fn places(rt: &impl Print) {
-    line::begin(rt, b"one place, on 1 April and on 31 April; three places");
-    tables(rt, 1, &[], &[], 1);
-    tables(rt, 1, &[], &[], 31);
-    tables(rt, 3, &[10, 20, 15], &[12, 22, 18], 1);
-    line::end(rt);
-}
-
-pub(crate) fn date_first(rt: &impl Print) {
-    line::begin(rt, b"14 before 3, 4 and 8");
-    tables(rt, 0, &[], &[], 31);
-    tables(rt, 3, &[10, 20], &[12, 22], 31);
-    tables(rt, 3, &[10, 1_000_001, 15], &[12, 22, 18], 31);
-    tables(rt, 3, &[10, 26, 15], &[12, 22, 18], 31);
-    line::end(rt);
-}
-
-pub(crate) fn ordinary_first(rt: &impl Print) {
-    line::begin(
-        rt,
-        b"the ordinary table's 3, 4 and 8 before the thaw table's 8, 3 and 3",
-    );
-    tables(rt, 3, &[10, 20], &[12, 36, 18], 1);
-    tables(rt, 3, &[10, 1_000_001, 15], &[12, 22], 1);
-    tables(rt, 3, &[10, 26, 15], &[12, 22], 1);
-    line::end(rt);
-}
-
-pub(crate) fn thaw_last(rt: &impl Print) {
-    line::begin(rt, b"the thaw table's 3, shorter and longer, 4 and 8");
-    tables(rt, 3, &[10, 20, 15], &[12, 22], 1);
-    tables(rt, 3, &[10, 20, 15], &[12, 22, 18, 0], 1);
-    tables(rt, 3, &[10, 20, 15], &[12, 1_000_001, 18], 1);
-    tables(rt, 3, &[10, 20, 15], &[12, 36, 18], 1);
-    line::end(rt);
+// The order of the tests. One place has no legs, accepted or not.
+pub(crate) fn tests(rt: &impl Print) -> io::Result<()> {
+    println!(rt;
+        "one place, on 1 April and on 31 April; three places: {} {} {}",
+        Tables::on(1, 1, &[], &[]),
+        Tables::on(31, 1, &[], &[]),
+        Tables::on(1, 3, &[10, 20, 15], &[12, 22, 18])
+    )?;
+    println!(rt;
+        "14 before 3, 4 and 8: {} {} {} {}",
+        Tables::on(31, 0, &[], &[]),
+        Tables::on(31, 3, &[10, 20], &[12, 22]),
+        Tables::on(31, 3, &[10, 1_000_001, 15], &[12, 22, 18]),
+        Tables::on(31, 3, &[10, 26, 15], &[12, 22, 18])
+    )?;
+    println!(rt;
+        "the ordinary table's 3, 4 and 8 before the thaw table's 8, 3 and 3: {} {} {}",
+        Tables::on(1, 3, &[10, 20], &[12, 36, 18]),
+        Tables::on(1, 3, &[10, 1_000_001, 15], &[12, 22]),
+        Tables::on(1, 3, &[10, 26, 15], &[12, 22])
+    )?;
+    println!(rt;
+        "the thaw table's 3, shorter and longer, 4 and 8: {} {} {} {}",
+        Tables::on(1, 3, &[10, 20, 15], &[12, 22]),
+        Tables::on(1, 3, &[10, 20, 15], &[12, 22, 18, 0]),
+        Tables::on(1, 3, &[10, 20, 15], &[12, 1_000_001, 18]),
+        Tables::on(1, 3, &[10, 20, 15], &[12, 36, 18])
+    )
 }

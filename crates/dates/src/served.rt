@@ -1,7 +1,7 @@
 // A day served on the legs that come back, beside the same day served on each of the two tables.
-use crate::{line, named};
+use crate::{named, told};
 use dayfile::Day;
-use dispatch::Dispatch;
+use std::{fmt, io};
 
 // The day of case A.
 fn day_a() -> Day {
@@ -19,41 +19,61 @@ fn day_a() -> Day {
     }
 }
 
-// Its number, drive, way home and floor.
-fn serve(rt: &impl Print, legs: &[u32]) {
-    let served = Dispatch::serve_day(day_a(), legs);
-    let verdict = served.verdict;
-    line::verdict(rt, verdict);
-    line::number(rt, served.driven);
-    line::number(rt, served.home);
-    line::number(rt, served.floor);
+// What is told of the day: the number of the refusal, or 0; its drive, way home and floor, 0 where it is refused.
+#[derive(Clone, Copy)]
+struct Served {
+    number: u8,
+    driven: u64,
+    home: u64,
+    floor: u64,
+}
+
+impl fmt::Display for Served {
+    fn fmt<W: fmt::Write>(&self, f: &mut fmt::Formatter<W>) -> fmt::Result {
+        let Served {
+            number,
+            driven,
+            home,
+            floor,
+        } = self;
+        write!(f, "{number} {driven} {home} {floor}")
+    }
+}
+
+// The day over a table.
+fn serve(legs: &[u32]) -> Served {
+    let served = told::served(day_a(), legs);
+    let (driven, home, floor) = served.map_or((0, 0, 0), |day| (day.driven, day.home, day.floor));
+    Served {
+        number: told::number(served),
+        driven,
+        home,
+        floor,
+    }
 }
 
 // The same on the legs of the first day of a month, the window being that of March to May.
-fn on_day<'a>(rt: &impl Print, ordinary: &'a [u32], thaw: &'a [u32], month: u8) {
-    serve(
-        rt,
-        season::legs(
-            3,
-            ordinary,
-            thaw,
-            named::spring(),
-            named::date(1, month, 2_026),
-        ),
-    );
+fn on_day<'a>(ordinary: &'a [u32], thaw: &'a [u32], month: u8) -> Served {
+    serve(season::legs(
+        3,
+        ordinary,
+        thaw,
+        named::SPRING,
+        named::date(1, month, 2_026),
+    ))
 }
 
-pub(crate) fn days<'a>(rt: &impl Print, ordinary: &'a [u32], thaw: &'a [u32]) {
-    line::begin(rt, b"case A served in May; over the thaw table");
-    on_day(rt, ordinary, thaw, 5);
-    serve(rt, thaw);
-    line::end(rt);
-    line::begin(
-        rt,
-        b"case A served in June; over the ordinary table; in month 13",
-    );
-    on_day(rt, ordinary, thaw, 6);
-    serve(rt, ordinary);
-    on_day(rt, ordinary, thaw, 13);
-    line::end(rt);
+// Days inside the window and outside.
+pub(crate) fn days<'a>(rt: &impl Print, ordinary: &'a [u32], thaw: &'a [u32]) -> io::Result<()> {
+    println!(rt;
+        "case A served in May; over the thaw table: {} {}",
+        on_day(ordinary, thaw, 5),
+        serve(thaw)
+    )?;
+    println!(rt;
+        "case A served in June; over the ordinary table; in month 13: {} {} {}",
+        on_day(ordinary, thaw, 6),
+        serve(ordinary),
+        on_day(ordinary, thaw, 13)
+    )
 }

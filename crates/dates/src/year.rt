@@ -1,6 +1,7 @@
 // Windows beside a walk through a leap year, round its end: a day is inside if the walk from the first day meets it no later than the last.
-use crate::{count, line, named};
+use crate::{count, named};
 use season::{Date, MonthDay, Window};
+use std::io;
 
 // 1 January of 2024, counted from 1 March of the year 0.
 const LEAP: u64 = 739_191;
@@ -8,82 +9,79 @@ const LEAP: u64 = 739_191;
 // 1 January of 2023.
 const COMMON: u64 = 738_826;
 
-// How far the walk from a day of a leap year to another goes.
-fn steps(from: u64, to: u64) -> u64 {
-    if from <= to {
-        return to - from;
-    }
-    std::num::wrapping_sub_u64(std::num::wrapping_add_u64(to, 366), from)
+// How many windows are tried.
+const WINDOWS: u64 = 4_453;
+
+// A window by two days of a leap year, from 0 on.
+#[derive(Clone, Copy)]
+struct Walk {
+    first: u64,
+    last: u64,
 }
 
 // The month and day of a day of a leap year.
 fn month_day(index: u64) -> MonthDay {
-    let date = count::date(std::num::wrapping_add_u64(LEAP, index));
+    let date = count::date(LEAP.wrapping_add(index));
     MonthDay {
         month: date.month,
         day: date.day,
     }
 }
 
-// Whether the table of a date is the right one; the date is that day of a leap year.
-fn right(first: u64, last: u64, index: u64, date: Date) -> bool {
-    let window = Window {
-        first: month_day(first),
-        last: month_day(last),
-    };
-    let leg = named::leg(window, date);
-    if steps(first, index) <= steps(first, last) {
-        return leg == 12;
+impl Walk {
+    // The walk of a number: every fifth day is a first, for each every sixth a last, and 29 February is both.
+    fn new(number: u64) -> Self {
+        Self {
+            first: number / 61 % 73 * 5 + 4,
+            last: number % 61 * 6 + 5,
+        }
     }
-    leg == 10
-}
 
-// How many dates that are this day of a leap year have the right table: one of 2024, and one of 2023, which has no day 59, 29 February, and has the
-// days after it one number earlier.
-fn dates(first: u64, last: u64, index: u64) -> u64 {
-    let leap = right(
-        first,
-        last,
-        index,
-        count::date(std::num::wrapping_add_u64(LEAP, index)),
-    ) as u64;
-    if index == 59 {
-        return leap;
+    // How far the walk from the first day to another goes.
+    fn steps(self, to: u64) -> u64 {
+        if self.first <= to {
+            return to - self.first;
+        }
+        to.wrapping_add(366).wrapping_sub(self.first)
     }
-    let earlier = std::num::wrapping_sub_u64(index, (59 < index) as u64);
-    let common = right(
-        first,
-        last,
-        index,
-        count::date(std::num::wrapping_add_u64(COMMON, earlier)),
-    ) as u64;
-    std::num::wrapping_add_u64(leap, common)
-}
 
-// How many dates of the two years have the right table.
-fn years(first: u64, last: u64) -> u64 {
-    let mut count = 0;
-    for index in 0..366 {
-        count = std::num::wrapping_add_u64(count, dates(first, last, index));
+    // Whether the table of a date is the right one; the date is that day of a leap year.
+    fn is_right(self, index: u64, date: Date) -> bool {
+        let window = Window {
+            first: month_day(self.first),
+            last: month_day(self.last),
+        };
+        let is_inside = self.steps(index) <= self.steps(self.last);
+        named::leg(window, date) == if is_inside { 12 } else { 10 }
     }
-    count
-}
 
-// The same of the window of this number: every fifth day is a first, for each every sixth a last, and 29 February is both.
-fn window(i: u64) -> u64 {
-    years(i / 61 % 73 * 5 + 4, i % 61 * 6 + 5)
+    // Whether the table is right on this day of 2024.
+    fn is_right_in_leap(self, index: u64) -> bool {
+        self.is_right(index, count::date(LEAP.wrapping_add(index)))
+    }
+
+    // The same of 2023, which has no day 59, 29 February, and has the days after it one number earlier.
+    fn is_right_in_common(self, index: u64) -> bool {
+        let earlier = index.wrapping_sub(u64::from(59 < index));
+        index != 59 && self.is_right(index, count::date(COMMON.wrapping_add(earlier)))
+    }
+
+    // How many dates of the two years have the right table.
+    fn right(self) -> usize {
+        let leap = (0..366)
+            .filter(|&index| self.is_right_in_leap(index))
+            .count();
+        let common = (0..366)
+            .filter(|&index| self.is_right_in_common(index))
+            .count();
+        leap.wrapping_add(common)
+    }
 }
 
 // Prints how many windows there are, and how many dates have the right table.
-pub(crate) fn windows(rt: &impl Print) {
-    let mut windows = 0;
-    let mut agree = 0;
-    for i in 0..4_453 {
-        windows = std::num::wrapping_add_u64(windows, 1);
-        agree = std::num::wrapping_add_u64(agree, window(i));
-    }
-    line::begin(rt, b"windows; dates that have the right table, of 731 each");
-    line::number(rt, windows);
-    line::number(rt, agree);
-    line::end(rt);
+pub(crate) fn windows(rt: &impl Print) -> io::Result<()> {
+    let right = (0..WINDOWS)
+        .map(Walk::new)
+        .fold(0usize, |sum, walk| sum.wrapping_add(walk.right()));
+    println!(rt; "windows; dates that have the right table, of 731 each: {WINDOWS} {right}")
 }

@@ -3,11 +3,12 @@ use dayfile::Day;
 use road::Road;
 
 // The tables of a random day: the one in between keeps the triangle rule.
-pub(crate) const BETWEEN: u64 = 1;
-
-pub(crate) const LOWER: u64 = 2;
-
-pub(crate) const UPPER: u64 = 3;
+#[derive(Clone, Copy)]
+pub enum Table {
+    Between,
+    Lower,
+    Upper,
+}
 
 // The rule's next number.
 fn next(seed: u64) -> u64 {
@@ -17,8 +18,8 @@ fn next(seed: u64) -> u64 {
 
 // The number at an index of a part of the day of a number.
 pub(crate) fn number(day: u64, part: u64, index: usize) -> u64 {
-    let first = next(next(std::num::wrapping_add_u64(day, part << 20)));
-    next(next(std::num::wrapping_add_u64(first, index as u64)))
+    let first = next(next(day.wrapping_add(part << 20)));
+    next(next(first.wrapping_add(index as u64)))
 }
 
 // A number made to be below a bound.
@@ -46,41 +47,47 @@ pub(crate) fn day(day: u64, places: usize, cranes: usize, calls: usize) -> Day {
     }
 }
 
-// The metres of a leg: in between from 300,000 to 600,000, so that no two legs are together shorter than a third; up to as many less or more.
-fn exact(day: u64, table: u64, leg: usize) -> u32 {
-    let between = 300_000 + (number(day, BETWEEN, leg) % 300_001) as u32;
-    let off = (number(day, table, leg) % 300_001) as u32;
-    if table == LOWER {
-        return between - off;
+impl Table {
+    // The part of a day's numbers that the table is drawn from.
+    fn part(self) -> u64 {
+        match self {
+            Table::Between => 1,
+            Table::Lower => 2,
+            Table::Upper => 3,
+        }
     }
-    if table == UPPER {
-        return between + off;
-    }
-    between
-}
 
-// The same, on every second day rounded to 100,000, so that many costs are equal.
-fn metres(day: u64, table: u64, leg: usize) -> u32 {
-    let metres = exact(day, table, leg);
-    if day % 2 == 0 {
-        return metres;
+    // The metres of a leg: in between from 300,000 to 600,000, so that no two legs are together shorter than a third; up to as many less or more.
+    fn exact(self, day: u64, leg: usize) -> u32 {
+        let between = 300_000 + (number(day, 1, leg) % 300_001) as u32;
+        let off = (number(day, self.part(), leg) % 300_001) as u32;
+        match self {
+            Table::Between => between,
+            Table::Lower => between - off,
+            Table::Upper => between + off,
+        }
     }
-    metres / 100_000 % 10 * 100_000
-}
 
-// So many legs of a table of the day of a number.
-pub(crate) fn table(day: u64, table: u64, legs: usize) -> [u32; Road::LEGS] {
-    let mut run = [0; Road::LEGS];
-    for leg in 0..legs {
-        run[leg % Road::LEGS] = metres(day, table, leg);
+    // The same, on every second day rounded to 100,000, so that many costs are equal.
+    fn metres(self, day: u64, leg: usize) -> u32 {
+        let metres = self.exact(day, leg);
+        if day % 2 == 0 {
+            return metres;
+        }
+        metres / 100_000 % 10 * 100_000
     }
-    run
+
+    // So many legs of a table of the day of a number.
+    pub(crate) fn legs(self, day: u64, count: usize) -> [u32; Road::LEGS] {
+        let mut legs = [0; Road::LEGS];
+        for (leg, metres) in legs.iter_mut().enumerate().take(count) {
+            *metres = self.metres(day, leg);
+        }
+        legs
+    }
 }
 
 // So many legs, the first ones of more.
 pub(crate) fn front(legs: &[u32], count: usize) -> &[u32] {
-    if count <= legs.len() {
-        return &legs[0..count];
-    }
-    legs
+    legs.get(..count).unwrap_or(legs)
 }

@@ -1,15 +1,22 @@
 // Paper 11's cases by name, and the refusals in the order of the tests: for each the number, the lower floor and the upper floor.
-use crate::{draw, line};
+use crate::draw;
+use crate::told::{Floor, Floors};
 use dayfile::Day;
-use dispatch::Dispatch;
+use std::{fmt, io};
 
 // The legs of three places.
-pub type Legs = [u32; 3];
+type Legs = [u32; 3];
 
-// What the legs of case A are at least and at most.
+// The legs of case A.
+const EXACT: Legs = [10, 20, 15];
+
+// What they are at least and at most.
 const LOWER: Legs = [8, 18, 12];
 
 const UPPER: Legs = [12, 22, 18];
+
+// Legs that break the triangle rule.
+const DETOUR: Legs = [1, 26, 1];
 
 // No place.
 const NO_PLACE: u16 = 65_535;
@@ -17,21 +24,48 @@ const NO_PLACE: u16 = 65_535;
 // One more than the most metres.
 const FAR: u32 = 1_000_001;
 
-// Case A with other counts, its second start and its last call elsewhere, and a number in every entry past its stops.
-fn day(places: usize, cranes: usize, calls: usize, start: u16, last: u16, rest: u16) -> Day {
-    let mut starts = [rest; Day::CRANES];
-    starts[0] = 0;
-    starts[1] = start;
-    let mut requests = [rest; Day::CALLS];
-    requests[0] = 1;
-    requests[1] = 0;
-    requests[2] = last;
-    Day {
-        places,
-        cranes,
-        calls,
-        starts,
-        requests,
+// A day with starts at 0 and `start` and calls at 1, 0 and `last`, as far as the counts go, and `rest` in every entry past them.
+#[derive(Clone, Copy)]
+struct Case {
+    places: usize,
+    cranes: usize,
+    calls: usize,
+    start: u16,
+    last: u16,
+    rest: u16,
+}
+
+// Case A.
+const A: Case = Case {
+    places: 3,
+    cranes: 2,
+    calls: 3,
+    start: 2,
+    last: 1,
+    rest: 0,
+};
+
+impl Case {
+    fn day(self) -> Day {
+        let mut starts = [self.rest; Day::CRANES];
+        starts[0] = 0;
+        starts[1] = self.start;
+        let mut requests = [self.rest; Day::CALLS];
+        requests[0] = 1;
+        requests[1] = 0;
+        requests[2] = self.last;
+        Day {
+            places: self.places,
+            cranes: self.cranes,
+            calls: self.calls,
+            starts,
+            requests,
+        }
+    }
+
+    // What is told of the day between two tables of three legs.
+    fn between(self, lower: Legs, upper: Legs) -> Floors {
+        Floors::between(self.day(), &lower, &upper)
     }
 }
 
@@ -48,208 +82,214 @@ fn one(places: usize, call: u16) -> Day {
     }
 }
 
-// Prints what is told of a day.
-fn ask<'a>(rt: &impl Print, day: Day, lower: &'a [u32], upper: &'a [u32]) {
-    let told = rough::floors(day, lower, upper);
-    let verdict = told.verdict;
-    line::verdict(rt, verdict);
-    line::number(rt, told.lower);
-    line::number(rt, told.upper);
-}
-
-// The same over three legs each.
-fn between(rt: &impl Print, day: Day, lower: Legs, upper: Legs) {
-    ask(rt, day, &lower, &upper);
-}
-
-// The same of case A.
-fn tables(rt: &impl Print, lower: Legs, upper: Legs) {
-    between(rt, day(3, 2, 3, 2, 1, 0), lower, upper);
+// What is told of case A between two tables.
+fn tables(lower: Legs, upper: Legs) -> Floors {
+    A.between(lower, upper)
 }
 
 // The same with other counts.
-fn counts(rt: &impl Print, cranes: usize, calls: usize, upper: Legs) {
-    between(rt, day(3, cranes, calls, 2, 1, 0), LOWER, upper);
+fn counts(cranes: usize, calls: usize, upper: Legs) -> Floors {
+    Case { cranes, calls, ..A }.between(LOWER, upper)
 }
 
 // The same with its second start and its last call elsewhere.
-fn stops(rt: &impl Print, start: u16, last: u16, lower: Legs) {
-    between(rt, day(3, 2, 3, start, last, 0), lower, UPPER);
+fn stops(start: u16, last: u16, lower: Legs) -> Floors {
+    Case { start, last, ..A }.between(lower, UPPER)
 }
 
-// The same over so many legs of 0 metres each.
-fn lengths(rt: &impl Print, places: usize, cranes: usize, lower: usize, upper: usize) {
+// What is told of one call over so many legs of 0 metres each.
+fn lengths(places: usize, cranes: usize, lower: usize, upper: usize) -> Floors {
     let legs = [0; 2_080];
-    let day = day(places, cranes, 1, 0, 0, 0);
-    ask(
-        rt,
-        day,
-        draw::front(&legs, lower),
-        draw::front(&legs, upper),
-    );
+    let day = Case {
+        places,
+        cranes,
+        calls: 1,
+        start: 0,
+        last: 0,
+        rest: 0,
+    }
+    .day();
+    Floors::between(day, draw::front(&legs, lower), draw::front(&legs, upper))
 }
 
-// Prints the number and the floor of a day over one table.
-fn plan(rt: &impl Print, day: Day, table: &[u32]) {
-    let told = Dispatch::plan_floor(day, table);
-    let verdict = told.verdict;
-    line::verdict(rt, verdict);
-    line::number(rt, told.floor);
+// The floor of the plans of case A over one table, and of the day served.
+#[derive(Clone, Copy)]
+struct Both {
+    plans: Floor,
+    served: Floor,
 }
 
-// The same of case A, then the number and the floor of the day served.
-fn both(rt: &impl Print, legs: Legs) {
-    let day = day(3, 2, 3, 2, 1, 0);
-    plan(rt, day, &legs);
-    let told = Dispatch::serve_day(day, &legs);
-    let verdict = told.verdict;
-    line::verdict(rt, verdict);
-    line::number(rt, told.floor);
+impl Both {
+    fn over(legs: Legs) -> Self {
+        Self {
+            plans: Floor::of_plans(A.day(), &legs),
+            served: Floor::served(A.day(), &legs),
+        }
+    }
+}
+
+impl fmt::Display for Both {
+    fn fmt<W: fmt::Write>(&self, f: &mut fmt::Formatter<W>) -> fmt::Result {
+        let Both { plans, served } = self;
+        write!(f, "{plans} {served}")
+    }
 }
 
 // Case A over legs known roughly, known exactly, not known from below, and without the triangle rule.
-pub(crate) fn floors(rt: &impl Print) {
-    line::begin(rt, b"case A between 8 18 12 and 12 22 18");
-    tables(rt, LOWER, UPPER);
-    line::end(rt);
-    line::begin(
-        rt,
-        b"case A between 10 20 15 and the same; between 0 0 0 and 10 20 15",
-    );
-    tables(rt, [10, 20, 15], [10, 20, 15]);
-    tables(rt, [0, 0, 0], [10, 20, 15]);
-    line::end(rt);
-    line::begin(
-        rt,
-        b"case A between 1 26 1 and 10 40 2, which break the triangle rule",
-    );
-    tables(rt, [1, 26, 1], [10, 40, 2]);
-    line::end(rt);
+fn floors(rt: &impl Print) -> io::Result<()> {
+    println!(rt;
+        "case A between 8 18 12 and 12 22 18: {}",
+        tables(LOWER, UPPER)
+    )?;
+    println!(rt;
+        "case A between 10 20 15 and the same; between 0 0 0 and 10 20 15: {} {}",
+        tables(EXACT, EXACT),
+        tables([0; 3], EXACT)
+    )?;
+    println!(rt;
+        "case A between 1 26 1 and 10 40 2, which break the triangle rule: {}",
+        tables(DETOUR, [10, 40, 2])
+    )
 }
 
 // A detour, one place, and no call.
-pub(crate) fn edges(rt: &impl Print) {
-    line::begin(rt, b"from 0 to 2 and back over 1 10 1: a detour is no leg");
-    between(rt, one(3, 2), [1, 10, 1], [1, 10, 1]);
-    line::end(rt);
-    line::begin(rt, b"one place; two cranes without a call");
-    ask(rt, one(1, 0), &[], &[]);
-    counts(rt, 2, 0, UPPER);
-    line::end(rt);
+fn edges(rt: &impl Print) -> io::Result<()> {
+    println!(rt;
+        "from 0 to 2 and back over 1 10 1: a detour is no leg: {}",
+        Floors::between(one(3, 2), &[1, 10, 1], &[1, 10, 1])
+    )?;
+    println!(rt;
+        "one place; two cranes without a call: {} {}",
+        Floors::between(one(1, 0), &[], &[]),
+        counts(2, 0, UPPER)
+    )
 }
 
 // One table: the floor of the plans beside that of the day served, which is refused where the table breaks the triangle rule.
-pub(crate) fn plans(rt: &impl Print) {
-    line::begin(
-        rt,
-        b"plans of case A, and the day served, over 10 20 15; over 12 22 18; over 1 26 1",
-    );
-    both(rt, [10, 20, 15]);
-    both(rt, UPPER);
-    both(rt, [1, 26, 1]);
-    line::end(rt);
+fn plans(rt: &impl Print) -> io::Result<()> {
+    println!(rt;
+        "plans of case A, and the day served, over 10 20 15; over 12 22 18; over 1 26 1: {} {} {}",
+        Both::over(EXACT),
+        Both::over(UPPER),
+        Both::over(DETOUR)
+    )
 }
 
 // Entries past the counts.
-pub(crate) fn past(rt: &impl Print) {
-    let last = day(3, 2, 2, 2, NO_PLACE, NO_PLACE);
-    line::begin(
-        rt,
-        b"no place past the counts: case A; without its last call; the same with places; plans",
-    );
-    between(rt, day(3, 2, 3, 2, 1, NO_PLACE), LOWER, UPPER);
-    between(rt, last, LOWER, UPPER);
-    counts(rt, 2, 2, UPPER);
-    plan(rt, last, &UPPER);
-    line::end(rt);
+fn past(rt: &impl Print) -> io::Result<()> {
+    let spoiled = Case {
+        rest: NO_PLACE,
+        ..A
+    };
+    let shorter = Case {
+        calls: 2,
+        last: NO_PLACE,
+        ..spoiled
+    };
+    println!(rt;
+        "no place past the counts: case A; without its last call; the same with places; plans: {} {} {} {}",
+        spoiled.between(LOWER, UPPER),
+        shorter.between(LOWER, UPPER),
+        counts(2, 2, UPPER),
+        Floor::of_plans(shorter.day(), &UPPER)
+    )
 }
 
-pub(crate) fn order(rt: &impl Print) {
-    line::begin(
-        rt,
-        b"3: 0 and 65 places; the lower table shorter, longer; the upper; each before 6",
-    );
-    lengths(rt, 0, 2, 0, 0);
-    lengths(rt, 65, 2, 2_080, 2_080);
-    lengths(rt, 3, 2, 2, 3);
-    lengths(rt, 3, 2, 4, 3);
-    lengths(rt, 3, 2, 3, 2);
-    lengths(rt, 3, 2, 3, 4);
-    lengths(rt, 3, 0, 2, 3);
-    lengths(rt, 3, 0, 3, 2);
-    line::end(rt);
+// The cases.
+pub(crate) fn cases(rt: &impl Print) -> io::Result<()> {
+    floors(rt)?;
+    edges(rt)?;
+    plans(rt)?;
+    past(rt)
 }
 
-pub(crate) fn cranes(rt: &impl Print) {
-    line::begin(
-        rt,
-        b"6: 0 cranes; 17 cranes; before 7; 7: 257 calls; before 4",
-    );
-    counts(rt, 0, 3, UPPER);
-    counts(rt, 17, 3, UPPER);
-    counts(rt, 17, 257, UPPER);
-    counts(rt, 2, 257, UPPER);
-    counts(rt, 2, 257, [12, 22, FAR]);
-    line::end(rt);
+fn order(rt: &impl Print) -> io::Result<()> {
+    println!(rt;
+        "3: 0 and 65 places; the lower table shorter, longer; the upper; each before 6: {} {} {} {} {} {} {} {}",
+        lengths(0, 2, 0, 0),
+        lengths(65, 2, 2_080, 2_080),
+        lengths(3, 2, 2, 3),
+        lengths(3, 2, 4, 3),
+        lengths(3, 2, 3, 2),
+        lengths(3, 2, 3, 4),
+        lengths(3, 0, 2, 3),
+        lengths(3, 0, 3, 2)
+    )
 }
 
-pub(crate) fn metres(rt: &impl Print) {
-    line::begin(
-        rt,
-        b"4: the lower table; the upper; each before 15; 1000000 is accepted",
-    );
-    tables(rt, [8, 18, FAR], [12, 22, FAR]);
-    tables(rt, LOWER, [12, 22, FAR]);
-    tables(rt, [13, FAR, 12], UPPER);
-    tables(rt, [13, 18, 12], [12, 22, FAR]);
-    tables(rt, [1_000_000; 3], [1_000_000; 3]);
-    line::end(rt);
+fn cranes(rt: &impl Print) -> io::Result<()> {
+    println!(rt;
+        "6: 0 cranes; 17 cranes; before 7; 7: 257 calls; before 4: {} {} {} {} {}",
+        counts(0, 3, UPPER),
+        counts(17, 3, UPPER),
+        counts(17, 257, UPPER),
+        counts(2, 257, UPPER),
+        counts(2, 257, [12, 22, FAR])
+    )
 }
 
-pub(crate) fn bounds(rt: &impl Print) {
-    line::begin(
-        rt,
-        b"15: the first leg; the second; the last; before 5; 5: a start; a call",
-    );
-    tables(rt, [13, 18, 12], UPPER);
-    tables(rt, [8, 23, 12], UPPER);
-    tables(rt, [8, 18, 19], UPPER);
-    stops(rt, 3, 3, [8, 18, 19]);
-    stops(rt, 3, 1, LOWER);
-    stops(rt, 2, 3, LOWER);
-    line::end(rt);
+fn metres(rt: &impl Print) -> io::Result<()> {
+    println!(rt;
+        "4: the lower table; the upper; each before 15; 1000000 is accepted: {} {} {} {} {}",
+        tables([8, 18, FAR], [12, 22, FAR]),
+        tables(LOWER, [12, 22, FAR]),
+        tables([13, FAR, 12], UPPER),
+        tables([13, 18, 12], [12, 22, FAR]),
+        tables([1_000_000; 3], [1_000_000; 3])
+    )
 }
 
-pub(crate) fn triangles(rt: &impl Print) {
-    line::begin(
-        rt,
-        b"no 8: the lower table breaks the triangle rule; the upper; both",
-    );
-    tables(rt, [8, 21, 12], UPPER);
-    tables(rt, LOWER, [12, 31, 18]);
-    tables(rt, [8, 21, 12], [12, 31, 18]);
-    line::end(rt);
+fn bounds(rt: &impl Print) -> io::Result<()> {
+    println!(rt;
+        "15: the first leg; the second; the last; before 5; 5: a start; a call: {} {} {} {} {} {}",
+        tables([13, 18, 12], UPPER),
+        tables([8, 23, 12], UPPER),
+        tables([8, 18, 19], UPPER),
+        stops(3, 3, [8, 18, 19]),
+        stops(3, 1, LOWER),
+        stops(2, 3, LOWER)
+    )
+}
+
+fn triangles(rt: &impl Print) -> io::Result<()> {
+    println!(rt;
+        "no 8: the lower table breaks the triangle rule; the upper; both: {} {} {}",
+        tables([8, 21, 12], UPPER),
+        tables(LOWER, [12, 31, 18]),
+        tables([8, 21, 12], [12, 31, 18])
+    )
 }
 
 // The plans of a day whose second start is no place, with other counts, over the first legs of three.
-fn refused(rt: &impl Print, legs: usize, third: u32, cranes: usize, calls: usize) {
+fn refused(legs: usize, third: u32, cranes: usize, calls: usize) -> Floor {
     let table = [10, 20, third];
-    plan(
-        rt,
-        day(3, cranes, calls, 3, 1, 0),
-        draw::front(&table, legs),
-    );
+    let day = Case {
+        cranes,
+        calls,
+        start: 3,
+        ..A
+    }
+    .day();
+    Floor::of_plans(day, draw::front(&table, legs))
 }
 
-pub(crate) fn plans_refused(rt: &impl Print) {
-    line::begin(
-        rt,
-        b"plans: 3 before 6; 6 before 7; 7 before 4; 4 before 5; 5",
-    );
-    refused(rt, 2, FAR, 0, 257);
-    refused(rt, 3, FAR, 0, 257);
-    refused(rt, 3, FAR, 2, 257);
-    refused(rt, 3, FAR, 2, 3);
-    refused(rt, 3, 15, 2, 3);
-    line::end(rt);
+fn plans_refused(rt: &impl Print) -> io::Result<()> {
+    println!(rt;
+        "plans: 3 before 6; 6 before 7; 7 before 4; 4 before 5; 5: {} {} {} {} {}",
+        refused(2, FAR, 0, 257),
+        refused(3, FAR, 0, 257),
+        refused(3, FAR, 2, 257),
+        refused(3, FAR, 2, 3),
+        refused(3, 15, 2, 3)
+    )
+}
+
+// The refusals.
+pub(crate) fn refusals(rt: &impl Print) -> io::Result<()> {
+    order(rt)?;
+    cranes(rt)?;
+    metres(rt)?;
+    bounds(rt)?;
+    triangles(rt)?;
+    plans_refused(rt)
 }
