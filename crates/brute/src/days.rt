@@ -5,13 +5,15 @@ use crate::roads::Square;
 use crate::sheets::Posted;
 use crate::small::{Counts, Source};
 use crate::tally::{Group, Others, Tally};
-use crate::{search, small, told};
+use crate::{search, small};
 use dayfile::Day;
+use dispatch::Dispatch;
 use std::fmt;
 
 // Whether a day over a run is refused by a number, served and as a sheet.
 fn is_refused(day: Day, run: &[u32], number: u8) -> bool {
-    told::is_refused(told::served(day, run), number) && Posted::new(day, run).is_refused(number)
+    (base::number(Dispatch::serve_day(day, run)) == number)
+        && Posted::new(day, run).is_refused(number)
 }
 
 // Whether a day of three places with legs that break the triangle rule is refused by 8; and by 3, which comes before 8, with one leg fewer

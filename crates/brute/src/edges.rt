@@ -1,9 +1,9 @@
 // Days with every figure: document 01's edges and case A, those of paper 1, and days that show where a shorter method goes wrong.
 use crate::roads::Square;
+use crate::search;
 use crate::search::Site;
 use crate::small::{Counts, Source};
 use crate::tally::Group;
-use crate::{search, told};
 use dayfile::Day;
 use std::io;
 
@@ -112,7 +112,7 @@ const EDGES: [Edge; 8] = [
 // Prints what the program tells of a day.
 fn tell(rt: &impl Print, day: Day, run: &[u32]) -> io::Result<()> {
     let mut file = [0; ROOM];
-    let length = told::file(day, run, &mut file).unwrap_or(0);
+    let length = day.write(run, &mut file).unwrap_or(0);
     let printed = report::print(file.get(..length).unwrap_or(&file));
     rt.write_all(&printed.text[..printed.length])
 }

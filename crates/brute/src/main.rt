@@ -18,7 +18,6 @@ mod search;
 mod sheets;
 mod small;
 mod tally;
-mod told;
 
 use std::io;
 use tally::Group;

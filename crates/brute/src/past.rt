@@ -3,10 +3,10 @@
 ghost use Rattle.std.specs.Prelude.{◌<◌};
 
 use crate::roads::Square;
+use crate::search;
 use crate::search::{Sides, Site};
 use crate::small::Counts;
 use crate::tally::Tally;
-use crate::{search, told};
 use base::Refusal;
 use book::Book;
 use dayfile::Day;
@@ -85,8 +85,8 @@ const ROOM: usize = 240;
 fn written_alike(a: Day, b: Day, run: &[u32]) -> Result<bool, Refusal> {
     let mut one = [9; ROOM];
     let mut other = [9; ROOM];
-    let length = told::file(a, run, &mut one)?;
-    let again = told::file(b, run, &mut other)?;
+    let length = a.write(run, &mut one)?;
+    let again = b.write(run, &mut other)?;
     Ok(length == again && one == other)
 }
 

@@ -6,11 +6,11 @@ use crate::roads::{Legs, Square};
 use crate::sheets::{Posted, Row};
 use crate::small::Source;
 use crate::tally::Outcome;
-use crate::{nets, positions, told};
+use crate::{nets, positions};
 use base::Refusal;
 use book::Book;
 use dayfile::Day;
-use dispatch::{Quote, ServedDay};
+use dispatch::{Dispatch, Quote, ServedDay};
 
 // The most calls of a small day.
 const CALLS: usize = 6;
@@ -129,7 +129,7 @@ impl Sides {
 
     // The same sides, with the floor that the search finds; they agree if they did and the book's costs are the search's.
     pub(crate) fn agreed(self, site: &Site) -> Result<Self, Refusal> {
-        let costs = told::costs(self.book, site.ground.places, site.run())?;
+        let costs = Dispatch::costs(self.book, site.ground.places, site.run())?;
         let floor = site.ground.work_at(&self.desk.reached, &self.desk.starts);
         let least = site.ground.work_at(&self.desk.reached, &self.desk.stands);
         let same = costs.least == least && costs.floor == floor;
@@ -150,10 +150,10 @@ impl Sides {
         let reached = ground.serve(&self.desk.reached, place);
         let leasts = ground.leasts(&reached, stands, place);
         let present = ground.work_at(&self.desk.reached, stands);
-        let told = told::nets(self.book, ground.places, site.run(), place)?;
+        let told = Dispatch::net_costs(self.book, ground.places, site.run(), place)?;
         Ok(Answers {
             netted: nets::alike(told, ground.cranes, present, &leasts),
-            quote: told::quote(self.book, ground.places, site.run(), place)?,
+            quote: Dispatch::quote(self.book, ground.places, site.run(), place)?,
             sent: ground.choose(&leasts, stands, place),
             leasts,
             reached,
@@ -172,7 +172,7 @@ impl Sides {
         } = self.asked(site, place)?;
         let crane = picked(ground.cranes, quote.crane, behind);
         let moved = ground.sending(&leasts, &self.desk.stands, place, crane);
-        let commit = told::commit(self.book, ground.places, site.run(), place, crane)?;
+        let commit = Dispatch::commit(self.book, ground.places, site.run(), place, crane)?;
         let desk = self.desk.gone(reached, moved, place);
         let quoted = netted && alike(sent, quote.crane, quote.metres, quote.least);
         let booked = commit.least == moved.least && desk.drives.are_in(&commit.book);
@@ -203,7 +203,7 @@ struct Followed {
 // A small day from its fresh book, each call by the crane so many numbers behind the quoted one as the source tells: all net costs, every
 // quote, every commit and every pair of costs.
 fn follow(day: Day, site: &Site, mut cranes: Source) -> Result<Followed, Refusal> {
-    let book = told::fresh(day, site.run())?;
+    let book = Book::fresh(day, site.run())?;
     let mut sides = Sides::begin(site, book)?;
     let mut sents = [Sent::NONE; CALLS];
     for (sent, &place) in sents.iter_mut().zip(&day.requests).take(day.calls) {
@@ -242,7 +242,7 @@ fn sums(site: &Site, told: &ServedDay, desk: &Desk) -> bool {
 pub(crate) fn day(day: Day, square: &Square) -> Result<Sides, Refusal> {
     let site = Site::of(&day, square);
     let Followed { sides, sents } = follow(day, &site, Source::digits(0))?;
-    let served = told::served(day, site.run())?;
+    let served = Dispatch::serve_day(day, site.run())?;
     let posted = Posted::new(day, site.run());
     let rows = lines(&day, &sents, &served, &posted) && posted.ends(day.calls);
     let agree = sides.outcome.agree && rows && sums(&site, &served, &sides.desk);

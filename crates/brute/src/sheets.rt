@@ -1,7 +1,6 @@
 // The sheet of a small day, byte by byte beside the figures of the brute search. What must stand at a byte is worked out from its index in
 // the row, which shares nothing with how `sheet` writes one.
 use crate::positions::Sent;
-use crate::told;
 use base::Refusal;
 use dayfile::Day;
 
@@ -90,7 +89,7 @@ impl Posted {
     // The sheet of a small day, into a buffer with bytes to spare.
     pub(crate) fn new(day: Day, run: &[u32]) -> Self {
         let mut bytes = [BEFORE; ROOM];
-        let length = told::sheet(day, run, &mut bytes);
+        let length = sheet::write(day, run, &mut bytes);
         Self { length, bytes }
     }
 
@@ -122,6 +121,6 @@ impl Posted {
 
     // Whether the day is refused by a number, and the buffer is as before.
     pub(crate) fn is_refused(&self, number: u8) -> bool {
-        told::is_refused(self.length, number) && self.is_kept(0)
+        (base::number(self.length) == number) && self.is_kept(0)
     }
 }

@@ -1,9 +1,9 @@
 // Books in memory: sound ones, each refusal and the order 3, 6, 7, 4, 5, 8, 9, 10, 13, then 5, 12 and 7 of a call; and that a refused commit
 // tells no other book.
 use crate::days::{A, BROKEN, LEGS, SHORT};
-use crate::{calls, entries, line, told};
+use crate::{calls, entries, line};
 use book::Book;
-use dispatch::Commit;
+use dispatch::{Commit, Dispatch};
 use std::io;
 
 // The most that a weight may be, and one more.
@@ -106,14 +106,14 @@ fn is_blank(commit: Commit, book: Book) -> bool {
 
 // Prints the number of the costs of a book, the least and the floor; the number of the net costs, and whether all 16 are 0, 1 or 0.
 fn costs(rt: &impl Print, book: Book, question: Question) -> io::Result<()> {
-    let costs = told::costs(book, question.places, question.table);
+    let costs = Dispatch::costs(book, question.places, question.table);
     let (least, floor) = costs.map_or((0, 0), |costs| (costs.least, costs.floor));
-    let nets = told::net_costs(book, question.places, question.table, question.place);
+    let nets = Dispatch::net_costs(book, question.places, question.table, question.place);
     let zeros = line::rest_is(0, &nets.unwrap_or([0; Book::CRANES]), 0);
     print!(rt;
         " {} {least} {floor} {} {}",
-        told::code(costs),
-        told::code(nets),
+        base::number(costs),
+        base::number(nets),
         u8::from(zeros)
     )
 }
@@ -123,18 +123,18 @@ fn costs(rt: &impl Print, book: Book, question: Question) -> io::Result<()> {
 fn ask(rt: &impl Print, book: Book, question: Question) -> io::Result<()> {
     let places = question.places;
     let table = question.table;
-    let tested = told::code(told::test_book(book, places, table));
+    let tested = base::number(book.test(places, table));
     print!(rt; " {tested}")?;
     costs(rt, book, question)?;
-    let quote = told::quote(book, places, table, question.place);
+    let quote = Dispatch::quote(book, places, table, question.place);
     let zeros = quote.map_or(
         true,
         |quote| (quote.crane == 0) & (quote.metres == 0) & (quote.least == 0),
     );
-    print!(rt; " {} {}", told::code(quote), u8::from(zeros))?;
-    let commit = told::commit(book, places, table, question.place, question.crane);
+    print!(rt; " {} {}", base::number(quote), u8::from(zeros))?;
+    let commit = Dispatch::commit(book, places, table, question.place, question.crane);
     let same = commit.map_or(true, |commit| is_blank(commit, book));
-    print!(rt; " {} {},", told::code(commit), u8::from(same))
+    print!(rt; " {} {},", base::number(commit), u8::from(same))
 }
 
 // The same over two places 7 metres apart.
@@ -297,9 +297,9 @@ pub(crate) fn cranes(rt: &impl Print) -> io::Result<()> {
 
 // A fresh book, and books of zeros in place of that of a day refused by 8, and of one refused by 3.
 pub(crate) fn fresh(rt: &impl Print) -> io::Result<()> {
-    let book = told::fresh(A.day(), &LEGS).unwrap_or(entries::ZEROS);
-    let crossed = told::fresh(A.day(), &BROKEN).unwrap_or(entries::ZEROS);
-    let shorter = told::fresh(A.day(), &SHORT).unwrap_or(entries::ZEROS);
+    let book = Book::fresh(A.day(), &LEGS).unwrap_or(entries::ZEROS);
+    let crossed = Book::fresh(A.day(), &BROKEN).unwrap_or(entries::ZEROS);
+    let shorter = Book::fresh(A.day(), &SHORT).unwrap_or(entries::ZEROS);
     line::begin(rt, 27)?;
     ask(rt, book, over(3, &LEGS))?;
     ask(rt, crossed, over(3, &LEGS))?;

@@ -1,8 +1,9 @@
 // Calls of case A in memory: its book before the last call, with the net costs, the quote and commits of one crane and another; the metres
 // after it; and a full book of its places.
 use crate::days::{A, LEGS};
-use crate::{days, entries, line, told};
+use crate::{days, entries, line};
 use book::Book;
+use dispatch::Dispatch;
 use std::{fmt, io};
 
 // No place and no follower.
@@ -34,9 +35,9 @@ impl Grown {
 
     // One call more, by the legs of case A.
     fn call(self, place: u16) -> Grown {
-        let quote = told::quote(self.book, 3, &LEGS, place);
+        let quote = Dispatch::quote(self.book, 3, &LEGS, place);
         let crane = quote.map_or(0, |quote| quote.crane);
-        let commit = told::commit(self.book, 3, &LEGS, place, crane);
+        let commit = Dispatch::commit(self.book, 3, &LEGS, place, crane);
         Grown {
             book: commit.map_or(self.book, |commit| commit.book),
             quotes: self.quotes.wrapping_add(u64::from(quote.is_ok())),
@@ -63,12 +64,12 @@ pub(crate) fn after_commit(
     place: u16,
     crane: usize,
 ) -> Book {
-    told::commit(book, places, table, place, crane).map_or(book, |commit| commit.book)
+    Dispatch::commit(book, places, table, place, crane).map_or(book, |commit| commit.book)
 }
 
 // A book of sixteen cranes at place 0 after 256 calls at place 1, 7 metres away, to which they are sent one after another.
 pub(crate) fn sent_in_turn() -> Book {
-    let mut book = told::fresh(days::idle(2, 16), &[7]).unwrap_or(entries::ZEROS);
+    let mut book = Book::fresh(days::idle(2, 16), &[7]).unwrap_or(entries::ZEROS);
     for i in 0..Book::CALLS {
         book = after_commit(book, 2, &[7], 1, i % Book::CRANES);
     }
@@ -77,17 +78,17 @@ pub(crate) fn sent_in_turn() -> Book {
 
 // Prints the net costs of a call at a place: the number, those of cranes 0 and 1, and whether all past them are 0, 1 or 0.
 fn net_costs(rt: &impl Print, book: Book, place: u16) -> io::Result<()> {
-    let told = told::net_costs(book, 3, &LEGS, place);
+    let told = Dispatch::net_costs(book, 3, &LEGS, place);
     let nets = told.unwrap_or([0; Book::CRANES]);
     let zeros = u8::from(line::rest_is(0, &nets, 2));
-    print!(rt; " {} {} {} {zeros},", told::code(told), nets[0], nets[1])
+    print!(rt; " {} {} {} {zeros},", base::number(told), nets[0], nets[1])
 }
 
 // Prints the quote of a call at place 1: the number, the crane, the metres and the least.
 fn quote(rt: &impl Print, book: Book) -> io::Result<()> {
-    match told::quote(book, 3, &LEGS, 1) {
+    match Dispatch::quote(book, 3, &LEGS, 1) {
         Ok(quote) => print!(rt; " 0 {} {} {},", quote.crane, quote.metres, quote.least),
-        Err(refusal) => print!(rt; " {} 0 0 0,", told::number(refusal)),
+        Err(refusal) => print!(rt; " {} 0 0 0,", u8::from(refusal)),
     }
 }
 
@@ -104,12 +105,12 @@ pub struct Sent {
 impl Sent {
     // The commit of a crane to a call at a place.
     fn new(book: Book, place: u16, crane: usize) -> Sent {
-        let commit = told::commit(book, 3, &LEGS, place, crane);
+        let commit = Dispatch::commit(book, 3, &LEGS, place, crane);
         let (least, after) = commit.map_or((0, book), |commit| (commit.least, commit.book));
-        let costs = told::costs(after, 3, &LEGS);
+        let costs = Dispatch::costs(after, 3, &LEGS);
         let (kept, floor) = costs.map_or((0, 0), |costs| (costs.least, costs.floor));
         Sent {
-            number: told::code(commit),
+            number: base::number(commit),
             least,
             book: after,
             kept,
@@ -146,7 +147,7 @@ fn commit_padded(rt: &impl Print, book: Book, crane: usize) -> io::Result<()> {
 
 // The book before the last call, over the legs of case A.
 fn before_last() -> Book {
-    let fresh = told::fresh(A.day(), &LEGS).unwrap_or(entries::ZEROS);
+    let fresh = Book::fresh(A.day(), &LEGS).unwrap_or(entries::ZEROS);
     Grown::new(fresh).call(1).call(0).book
 }
 
@@ -182,7 +183,7 @@ pub(crate) fn driven(rt: &impl Print) -> io::Result<()> {
     line::begin(rt, 31)?;
     metres(rt, Grown::new(book).call(1).book)?;
     metres(rt, after_commit(book, 3, &LEGS, 1, 0))?;
-    let served = told::serve_day(A.day(), &LEGS);
+    let served = Dispatch::serve_day(A.day(), &LEGS);
     let (driven, home, floor) = served.map_or((0, 0, 0), |day| (day.driven, day.home, day.floor));
     print!(rt; " {driven} {home} {floor},")
 }

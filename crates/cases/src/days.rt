@@ -1,8 +1,10 @@
 // Days in memory: each refusal, runs that are too short or too long, and the order 3, 6, 7, 4, 5, 8, told alike by all that take a day; then
 // 11, and what a buffer holds after.
-use crate::{line, told};
+use crate::line;
 use base::Refusal;
+use book::Book;
 use dayfile::Day;
+use dispatch::Dispatch;
 use std::io;
 
 // The legs of case A, three that break the triangle rule, and two for three places.
@@ -76,24 +78,24 @@ pub(crate) fn show(
     let length = written.unwrap_or(0);
     print!(rt;
         " {} {length} {}",
-        told::code(written),
+        base::number(written),
         u8::from(line::rest_is(7, buffer, length))
     )
 }
 
 // Writes a day into a buffer.
 fn write(rt: &impl Print, day: Day, table: &[u32], buffer: &mut [u8]) -> io::Result<()> {
-    let written = told::write(day, table, buffer);
+    let written = day.write(table, buffer);
     show(rt, written, buffer)?;
     print!(rt; ",")
 }
 
 // The numbers that the test of a day gives, the opening of its book, serving it, its sheet into no room, and writing it into no room.
 fn tell(rt: &impl Print, day: Day, table: &[u32]) -> io::Result<()> {
-    let tested = told::code(told::test_day(day, table));
-    let opened = told::code(told::fresh(day, table));
-    let served = told::code(told::serve_day(day, table));
-    let posted = told::code(told::sheet(day, table, &mut []));
+    let tested = base::number(day.test(table));
+    let opened = base::number(Book::fresh(day, table));
+    let served = base::number(Dispatch::serve_day(day, table));
+    let posted = base::number(sheet::write(day, table, &mut []));
     print!(rt; " {tested} {opened} {served} {posted}")?;
     write(rt, day, table, &mut [])
 }

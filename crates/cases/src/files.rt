@@ -1,7 +1,7 @@
 // Day files: every refusal of a file with its record, the order of the tests, and files that are read and written back. Prints four numbers
 // of each file: the number that reading gives, the record's index, whether the day that was read is written back byte for byte, 1 or 0, and the
 // sum of all 2,016 entries of its table. That is the sum of the legs where a table is 0 past them, and 0 for a refused file.
-use crate::{legs, line, told};
+use crate::{legs, line};
 use dayfile::{Day, Reading};
 use legorder::Pair;
 use road::Road;
@@ -81,7 +81,7 @@ fn comes_back(reading: Reading, bytes: &[u8]) -> bool {
     let Some(legs) = reading.table.get(..Road::legs(reading.day.places)) else {
         return false;
     };
-    let length = told::write(reading.day, legs, &mut buffer).unwrap_or(0);
+    let length = reading.day.write(legs, &mut buffer).unwrap_or(0);
     buffer.get(..length).is_some_and(|written| written == bytes)
 }
 
@@ -94,12 +94,12 @@ fn sum(table: &[u32]) -> u64 {
 
 // Reads a file.
 fn read(rt: &impl Print, bytes: &[u8]) -> io::Result<()> {
-    match told::read(bytes) {
+    match Day::read(bytes) {
         Ok(reading) => {
             let back = u8::from(comes_back(reading, bytes));
             print!(rt; " 0 0 {back} {},", sum(&reading.table))
         }
-        Err(error) => print!(rt; " {} {} 0 0,", told::number(error.refusal), error.record),
+        Err(error) => print!(rt; " {} {} 0 0,", u8::from(error.refusal), error.index),
     }
 }
 

@@ -1,6 +1,6 @@
 // The pairs of places of legs: all legs one after another, beside their index, their pair and the two tables; then numbers that are no leg's
 // index, and pairs that are no leg.
-use crate::{line, told};
+use crate::line;
 use base::Refusal;
 use legorder::{Columns, Pair};
 use road::Road;
@@ -48,12 +48,12 @@ fn same(a: Pair, b: Pair) -> bool {
 
 // Whether the leg is found by its index.
 fn found(index: usize, leg: Pair) -> bool {
-    told::pair_at(index).is_ok_and(|pair| same(pair, leg))
+    pairs::pair_at(index).is_ok_and(|pair| same(pair, leg))
 }
 
 // Whether the index is found by the leg.
 fn placed(index: usize, leg: Pair) -> bool {
-    told::index_of(leg.first, leg.second).is_ok_and(|told| told == index)
+    pairs::index_of(leg.first, leg.second).is_ok_and(|told| told == index)
 }
 
 // How many legs are found by their index, and how many indices by their leg.
@@ -84,21 +84,21 @@ fn listed(rt: &impl Print, legs: &[Pair], columns: Columns) -> io::Result<()> {
 
 // The pair at an index.
 fn at(rt: &impl Print, index: usize) -> io::Result<()> {
-    match told::pair_at(index) {
+    match pairs::pair_at(index) {
         Ok(pair) => print!(rt; " 0 {} {},", pair.first, pair.second),
-        Err(refusal) => print!(rt; " {} 0 0,", told::number(refusal)),
+        Err(refusal) => print!(rt; " {} 0 0,", u8::from(refusal)),
     }
 }
 
 // The index of a pair.
 fn of(rt: &impl Print, first: u16, second: u16) -> io::Result<()> {
-    let found = told::index_of(first, second);
-    print!(rt; " {} {},", told::code(found), found.unwrap_or(0))
+    let found = pairs::index_of(first, second);
+    print!(rt; " {} {},", base::number(found), found.unwrap_or(0))
 }
 
 // Whether a pair is refused by 5.
 fn refuses(first: u16, second: u16) -> bool {
-    matches!(told::index_of(first, second), Err(Refusal::Place))
+    matches!(pairs::index_of(first, second), Err(Refusal::Place))
 }
 
 // How many of the pairs of numbers below `END` are refused.

@@ -13,7 +13,6 @@ mod nearby;
 mod prints;
 mod sheets;
 mod tables;
-mod told;
 
 use std::io;
 

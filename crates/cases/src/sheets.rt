@@ -1,6 +1,6 @@
 // Sheets: what a buffer holds after, no calls, numbers past the counts, and numbers that fill their columns.
 use crate::days::{A, BROKEN, Case, LEGS, SHORT};
-use crate::{days, line, told};
+use crate::{days, line};
 use dayfile::Day;
 use road::Road;
 use std::io;
@@ -18,7 +18,7 @@ fn write(
     buffer: &mut [u8],
 ) -> io::Result<()> {
     print!(rt; "\n")?;
-    let written = told::sheet(day, table, buffer);
+    let written = sheet::write(day, table, buffer);
     if let Some(rows) = buffer.get(from..written.unwrap_or(0)) {
         rt.write_all(rows)?;
     }

@@ -1,5 +1,6 @@
 // Road tables: the limits, each rule, the number of legs, and the order 3, 4, 8. Prints the number that the test of each gives.
-use crate::{line, told};
+use crate::line;
+use road::Road;
 use std::io;
 
 // The legs that 65 places would have.
@@ -7,7 +8,7 @@ const ROOM: usize = 2_080;
 
 // A run, tested as the table of so many places.
 fn test(rt: &impl Print, places: usize, table: &[u32]) -> io::Result<()> {
-    print!(rt; " {}", told::code(told::test_table(places, table)))
+    print!(rt; " {}", base::number(Road::test(places, table)))
 }
 
 // The triangle rule, then the metres of a leg, and one place, which has no legs.

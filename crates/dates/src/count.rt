@@ -1,6 +1,5 @@
 // Dates by a count of days. A year is counted from 1 March, so that a leap day is the last of its year: four centuries have 146,097 days, and the
 // first days of the months lie 153 in five months apart.
-use crate::told;
 use season::{Date, MonthDay, Window};
 use std::io;
 
@@ -39,7 +38,7 @@ pub(crate) fn date(serial: u64) -> Date {
 
 // The number of a date, over one place.
 fn tested(date: Date) -> u8 {
-    told::tested(1, &[], &[], NEW_YEAR, date)
+    base::number(season::test(1, &[], &[], NEW_YEAR, date))
 }
 
 // Whether a date is later than another.

@@ -6,7 +6,6 @@
 mod count;
 mod named;
 mod served;
-mod told;
 mod year;
 
 use std::io;

@@ -1,5 +1,4 @@
 // Paper 10's cases by name: dates, edges, windows, and the order of the tests.
-use crate::told;
 use season::{Date, MonthDay, Window};
 use std::{fmt, io};
 
@@ -37,7 +36,7 @@ pub(crate) fn date(day: u8, month: u8, year: u16) -> Date {
 
 // The number of a date, over one place.
 fn tested(day: u8, month: u8, year: u16) -> u8 {
-    told::tested(1, &[], &[], SPRING, date(day, month, year))
+    base::number(season::test(1, &[], &[], SPRING, date(day, month, year)))
 }
 
 // Leap years, days and months that are not, and the years that count.
@@ -85,8 +84,8 @@ impl Edge {
             ..SPRING
         };
         Self {
-            first: told::tested(1, &[], &[], from, date(1, 1, 2_023)),
-            last: told::tested(1, &[], &[], until, date(1, 1, 2_023)),
+            first: base::number(season::test(1, &[], &[], from, date(1, 1, 2_023))),
+            last: base::number(season::test(1, &[], &[], until, date(1, 1, 2_023))),
         }
     }
 }
@@ -160,7 +159,7 @@ impl Tables {
     fn on<'a>(day: u8, places: usize, ordinary: &'a [u32], thaw: &'a [u32]) -> Self {
         let date = date(day, 4, 2_026);
         Self {
-            number: told::tested(places, ordinary, thaw, SPRING, date),
+            number: base::number(season::test(places, ordinary, thaw, SPRING, date)),
             legs: season::legs(places, ordinary, thaw, SPRING, date).len(),
         }
     }

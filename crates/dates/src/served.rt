@@ -1,6 +1,7 @@
 // A day served on the legs that come back, beside the same day served on each of the two tables.
-use crate::{named, told};
+use crate::named;
 use dayfile::Day;
+use dispatch::Dispatch;
 use std::{fmt, io};
 
 // The day of case A.
@@ -42,10 +43,10 @@ impl fmt::Display for Served {
 
 // The day over a table.
 fn serve(legs: &[u32]) -> Served {
-    let served = told::served(day_a(), legs);
+    let served = Dispatch::serve_day(day_a(), legs);
     let (driven, home, floor) = served.map_or((0, 0, 0), |day| (day.driven, day.home, day.floor));
     Served {
-        number: told::number(served),
+        number: base::number(served),
         driven,
         home,
         floor,

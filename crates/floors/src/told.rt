@@ -1,22 +1,9 @@
 // What the library tells, as a value or a refusal.
-use base::{Refusal, Verdict};
+use base::Refusal;
 use dayfile::Day;
 use dispatch::Dispatch;
 use road::Road;
 use std::fmt;
-
-// The answer of a test with what it vouches for.
-fn told<T: Copy>(verdict: Verdict, value: T) -> Result<T, Refusal> {
-    match verdict {
-        Verdict::Accepted => Ok(value),
-        Verdict::Refused(refusal) => Err(refusal),
-    }
-}
-
-// The number of a refusal, 0 of a value.
-fn number<T: Copy>(told: Result<T, Refusal>) -> u8 {
-    told.map_or_else(|refusal| base::number(Verdict::Refused(refusal)), |_| 0)
-}
 
 // A floor, 0 where it is refused, with the number of the refusal, 0 where it is told.
 #[derive(Clone, Copy)]
@@ -28,21 +15,19 @@ pub struct Floor {
 impl Floor {
     fn new(told: Result<u64, Refusal>) -> Self {
         Self {
-            number: number(told),
+            number: base::number(told),
             floor: told.unwrap_or(0),
         }
     }
 
     // Of the plans of a day over one table.
     pub(crate) fn of_plans(day: Day, table: &[u32]) -> Self {
-        let plan = Dispatch::plan_floor(day, table);
-        Self::new(told(plan.verdict, plan.floor))
+        Self::new(Dispatch::plan_floor(day, table))
     }
 
     // Of a day served.
     pub(crate) fn served(day: Day, table: &[u32]) -> Self {
-        let served = Dispatch::serve_day(day, table);
-        Self::new(told(served.verdict, served.floor))
+        Self::new(Dispatch::serve_day(day, table).map(|served| served.floor))
     }
 }
 
@@ -63,11 +48,10 @@ pub struct Floors {
 
 impl Floors {
     pub(crate) fn between<'a>(day: Day, lower: &'a [u32], upper: &'a [u32]) -> Self {
-        let rough = rough::floors(day, lower, upper);
-        let told = told(rough.verdict, (rough.lower, rough.upper));
-        let (lower, upper) = told.unwrap_or((0, 0));
+        let told = rough::floors(day, lower, upper);
+        let (lower, upper) = told.map_or((0, 0), |floors| (floors.lower, floors.upper));
         Self {
-            number: number(told),
+            number: base::number(told),
             lower,
             upper,
         }
@@ -87,5 +71,5 @@ impl fmt::Display for Floors {
 
 // The number of a table's test.
 pub(crate) fn tested(places: usize, table: &[u32]) -> u8 {
-    number(told(Road::test(places, table), ()))
+    base::number(Road::test(places, table))
 }
