@@ -8,6 +8,7 @@ use book::Book;
 use dayfile::Day;
 
 // The test of the book, then 5 for the place.
+#[tactic(auto, using(base::proofs::Numbers::handing))]
 pub(crate) fn test(book: Book, places: usize, table: &[u32], place: u16) -> Result<(), Refusal>
     ensures { number_of result ≡ near_refusal book places table.now place }
 {

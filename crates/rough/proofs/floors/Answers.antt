@@ -37,11 +37,11 @@ pub returns-in_err-test : goal.returns-in_err-test
 unfolding rough_of
 returns-in_err-test c = told_up two_floors _ _ _ _ _ c.from_residual.ensures.1 c.in_err-test.ensures refl
 
-pub returns-in_err-lower : goal.returns-in_err-lower
-returns-in_err-lower c = absurd (not_refused _ _ _ (low_accepted _ _ _ (sym c.in_ok-test.ensures)) c.in_err-lower.ensures)
+pub returns-in_err-plan_floor : goal.returns-in_err-plan_floor
+returns-in_err-plan_floor c = absurd (not_refused _ _ _ (low_accepted _ _ _ (sym c.in_ok-test.ensures)) c.in_err-plan_floor.ensures)
 
-pub returns-in_err-upper : goal.returns-in_err-upper
-returns-in_err-upper c = absurd (not_refused _ _ _ (high_accepted _ _ _ (sym c.in_ok-test.ensures)) c.in_err-upper.ensures)
+pub returns-in_err-plan_floor-2 : goal.returns-in_err-plan_floor-2
+returns-in_err-plan_floor-2 c = absurd (not_refused _ _ _ (high_accepted _ _ _ (sym c.in_ok-test.ensures)) c.in_err-plan_floor-2.ensures)
 
 pub returns : goal.returns
-returns c = two_told _ _ _ (sym c.in_ok-test.ensures) c.in_ok-lower.ensures c.in_ok-upper.ensures
+returns c = two_told _ _ _ (sym c.in_ok-test.ensures) c.in_ok-plan_floor.ensures c.in_ok-plan_floor-2.ensures

@@ -12,7 +12,7 @@ use Rattle.rough.proofs.tests.Laws.{two_counts, places_left}
 use Rattle.rough.proofs.tests.test.Goals as goal
 
 -- what the counts tell of either table, once they are accepted
-module _ {day : Day} {lower upper : ℕ} (h : 0 ≡ two_counts_refusal day lower upper) where
+module _ (day : Day) (lower upper : ℕ) (h : 0 ≡ two_counts_refusal day lower upper) where
   counted : CountsTested day.places lower day.cranes day.calls × CountsTested day.places upper day.cranes day.calls
   counted = two_counts day lower upper (sym h)
 
@@ -30,25 +30,25 @@ returns-in_err-counts c = up _ _ _ c.from_residual.ensures.1 (handed_up _ _ _ c.
 pub returns-in_err-test_legs : goal.returns-in_err-test_legs
 unfolding rough_refusal
 returns-in_err-test_legs c = goes_on _ _ _ c.in_ok-counts.ensures
-    (up _ _ _ c.from_residual-in_err-test_legs.ensures.1 (handed_up _ _ _ (lows c.in_ok-counts.ensures _ _ c.in_err-test_legs.ensures)))
+    (up _ _ _ c.from_residual-in_err-test_legs.ensures.1 (handed_up _ _ _ (lows _ _ _ c.in_ok-counts.ensures _ _ c.in_err-test_legs.ensures)))
 
 pub returns-in_err-test_legs-2 : goal.returns-in_err-test_legs-2
 unfolding rough_refusal
-returns-in_err-test_legs-2 c = goes_on _ _ _ c.in_ok-counts.ensures (goes_on _ _ _ (lows c.in_ok-counts.ensures _ _ c.in_ok-test_legs.ensures)
-    (up _ _ _ c.from_residual-in_err-test_legs-2.ensures.1 (handed_up _ _ _ (highs c.in_ok-counts.ensures _ _ c.in_err-test_legs-2.ensures))))
+returns-in_err-test_legs-2 c = goes_on _ _ _ c.in_ok-counts.ensures (goes_on _ _ _ (lows _ _ _ c.in_ok-counts.ensures _ _ c.in_ok-test_legs.ensures)
+    (up _ _ _ c.from_residual-in_err-test_legs-2.ensures.1 (handed_up _ _ _ (highs _ _ _ c.in_ok-counts.ensures _ _ c.in_err-test_legs-2.ensures))))
 
 pub test-requires : goal.test-requires
-test-requires c = let both = counted c.in_ok-counts.ensures in both.0.legs ∙ sym both.1.legs
+test-requires c = let both = counted _ _ _ c.in_ok-counts.ensures in both.0.legs ∙ sym both.1.legs
 
 pub returns-in_err-test : goal.returns-in_err-test
 unfolding rough_refusal
-returns-in_err-test c = goes_on _ _ _ c.in_ok-counts.ensures (goes_on _ _ _ (lows c.in_ok-counts.ensures _ _ c.in_ok-test_legs.ensures)
-    (goes_on _ _ _ (highs c.in_ok-counts.ensures _ _ c.in_ok-test_legs-2.ensures)
+returns-in_err-test c = goes_on _ _ _ c.in_ok-counts.ensures (goes_on _ _ _ (lows _ _ _ c.in_ok-counts.ensures _ _ c.in_ok-test_legs.ensures)
+    (goes_on _ _ _ (highs _ _ _ c.in_ok-counts.ensures _ _ c.in_ok-test_legs-2.ensures)
     (up _ _ _ c.from_residual-in_err-test.ensures.1 (handed_up _ _ _ c.in_err-test.ensures))))
 
 pub returns : goal.returns
 unfolding rough_refusal
-returns c = let legs = holds _ 3 (highs c.in_ok-counts.ensures _ _ c.in_ok-test_legs-2.ensures) in
-    goes_on _ _ _ c.in_ok-counts.ensures (goes_on _ _ _ (lows c.in_ok-counts.ensures _ _ c.in_ok-test_legs.ensures)
-    (goes_on _ _ _ (highs c.in_ok-counts.ensures _ _ c.in_ok-test_legs-2.ensures)
-    (goes_on _ _ _ c.in_ok-test.ensures (c.test_placed.ensures ∙ places_left _ _ (counted c.in_ok-counts.ensures).1 legs))))
+returns c = let legs = holds _ 3 (highs _ _ _ c.in_ok-counts.ensures _ _ c.in_ok-test_legs-2.ensures) in
+    goes_on _ _ _ c.in_ok-counts.ensures (goes_on _ _ _ (lows _ _ _ c.in_ok-counts.ensures _ _ c.in_ok-test_legs.ensures)
+    (goes_on _ _ _ (highs _ _ _ c.in_ok-counts.ensures _ _ c.in_ok-test_legs-2.ensures)
+    (goes_on _ _ _ c.in_ok-test.ensures (c.test_placed.ensures ∙ places_left _ _ (counted _ _ _ c.in_ok-counts.ensures).1 legs))))
