@@ -1,11 +1,13 @@
 // The lines of a print, each written behind the text that it has so far.
 ghost use Rattle.std.specs.Prelude.{◌≡◌, ◌+◌, ◌≤◌, replicate, length, get_or};
 ghost use Rattle.base.specs.Decimal.{decimal};
+ghost use Rattle.base.specs.Numbers.{refusal_number};
 ghost use Rattle.report.specs.Text.{field, call_line, last_line, refused_line, call_lines};
 ghost use Rattle.report.specs.Put.{Put, CallsGiven};
 ghost use Rattle.report.specs.Report.{printed};
 
 use crate::{Printed, TEXT};
+use base::Refusal;
 use dispatch::ServedDay;
 
 // Not by std's `write!`: none of its clauses says that it ends in `Ok` where there is room.
@@ -90,12 +92,12 @@ impl Printed {
     }
 
     // The line of a refusal.
-    pub(crate) fn refused(number: u64, index: u64) -> Printed
-        ensures { result ≡ printed (refused_line number index) }
+    pub(crate) fn refused(refusal: Refusal, index: usize) -> Printed
+        ensures { result ≡ printed (refused_line (refusal_number refusal) index) }
     {
         let mut print = Printed::empty();
-        print.put_field(b"refused ", number);
-        print.put_field(b" record ", index);
+        print.put_field(b"refused ", u64::from(u8::from(refusal)));
+        print.put_field(b" record ", index as u64);
         print.put(b"\n");
         print
     }
