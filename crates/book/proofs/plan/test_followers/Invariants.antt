@@ -4,6 +4,7 @@ use Prim.Native.Nat.{ℕ}
 use mathlib.Core.Bool.{Bool, ◌&&◌}
 use mathlib.Core.List.{List}
 use lib.Dec.{ltb}
+use lib.ListN.{length}
 use Rattle.base.proofs.Numbers.{stops}
 use Rattle.base.proofs.Tests.{Passed}
 use Rattle.workfunction.specs.Plan.{may_follow}
@@ -15,4 +16,4 @@ abbrev pub rule : ℕ → ℕ → List ℕ → ℕ → Bool
 rule cranes stops plan p = ltb (follower plan p) stops && may_follow cranes p (follower plan p)
 
 abbrev pub invariant-loop-p : goal.invariant-loop-p
-invariant-loop-p l = Passed l.stops (rule l.cranes l.stops l.plan) l.p
+invariant-loop-p l = Passed (length l.plan) (rule l.cranes (length l.plan) l.plan) l.p

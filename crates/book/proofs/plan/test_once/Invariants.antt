@@ -4,6 +4,7 @@ use Prim.Native.Nat.{ℕ}
 use mathlib.Core.Bool.{Bool}
 use mathlib.Core.List.{List}
 use lib.Dec.{eqb}
+use lib.ListN.{length}
 use Rattle.base.proofs.Tests.{Passed}
 use Rattle.workfunction.specs.Lists.{sum_below}
 use Rattle.workfunction.specs.Plan.{follows}
@@ -15,4 +16,4 @@ abbrev pub rule : ℕ → List ℕ → ℕ → Bool
 rule stops plan b = eqb (sum_below stops (follows (follower plan) b)) 1
 
 abbrev pub invariant-loop-b : goal.invariant-loop-b
-invariant-loop-b l = Passed l.stops (rule l.stops l.plan) l.b
+invariant-loop-b l = Passed (length l.plan) (rule (length l.plan) l.plan) l.b

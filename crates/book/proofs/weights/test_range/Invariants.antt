@@ -4,6 +4,7 @@ use Prim.Native.Nat.{ℕ}
 use mathlib.Core.Bool.{Bool}
 use mathlib.Core.List.{List}
 use lib.IntN.{ℤ}
+use lib.ListN.{length}
 use Rattle.base.proofs.Tests.{Passed}
 use Rattle.book.specs.Book.{weight, weight_rule}
 use Rattle.book.proofs.weights.test_range.Given as goal
@@ -12,5 +13,5 @@ use Rattle.book.proofs.weights.test_range.Given as goal
 abbrev pub rule : List ℤ → ℕ → Bool
 rule weights b = weight_rule (weight weights b)
 
-abbrev pub invariant-loop-i : goal.invariant-loop-i
-invariant-loop-i l = Passed l.stops (rule l.weights) l.i
+abbrev pub invariant-loop-y : goal.invariant-loop-y
+invariant-loop-y l = Passed (length l.weights) (rule l.weights) l.y-index
