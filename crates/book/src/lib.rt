@@ -52,17 +52,14 @@ impl Book {
 
     // The place of a stop, where the first list is that of the starts, or of a follower, where it is that of the stands; 0 past
     // the calls.
+    #[tactic(auto, using(workfunction::proofs::Stops::place_stand, crate::proofs::Places::place_past, crate::proofs::Places::place_none))]
     pub fn place_of(first: &[u16], calls: &[u16], p: usize) -> u16
         ensures { result ≡ place first.now calls.now p }
     {
-        if p < first.len() {
-            return first[p];
+        match first.get(p) {
+            Some(place) => *place,
+            None => calls.get(p - first.len()).copied().unwrap_or(0),
         }
-        let i = p - first.len();
-        if i < calls.len() {
-            return calls[i];
-        }
-        0
     }
 
     // The fresh book of a day: no calls, each crane at its start, start j followed by stand j, weights and metres 0; the

@@ -19,6 +19,7 @@ fn test_follower(cranes: usize, stops: usize, p: usize, b: usize) -> Result<(), 
 }
 
 // 9 unless every stop's follower is in range and may follow it.
+#[tactic(auto, using(base::proofs::Numbers::holds), unfolding(workfunction::specs::Plan::followers_rule, base::specs::Tests::all_below))]
 fn test_followers(cranes: usize, plan: &[u16]) -> Result<(), Refusal>
     ensures { number_of result ≡ unless (followers_rule cranes (length plan.now) (follower plan.now)) 9 }
 {
@@ -39,6 +40,7 @@ fn count(plan: &[u16], b: usize) -> usize
 }
 
 // 9 unless every follower follows exactly one stop.
+#[tactic(auto, unfolding(workfunction::specs::Plan::once_rule, base::specs::Tests::all_below))]
 fn test_once(plan: &[u16]) -> Result<(), Refusal>
     ensures { number_of result ≡ unless (once_rule (length plan.now) (follower plan.now)) 9 }
 {
@@ -51,6 +53,7 @@ fn test_once(plan: &[u16]) -> Result<(), Refusal>
 }
 
 // 9 unless the followers of all stops are a plan.
+#[tactic(auto, using(base::proofs::Numbers::up, base::proofs::Numbers::first_stops, base::proofs::Numbers::second_decides), unfolding(workfunction::specs::Plan::plan_rule))]
 pub(crate) fn test(cranes: usize, plan: &[u16]) -> Result<(), Refusal>
     ensures { number_of result ≡ unless (plan_rule cranes (length plan.now) (follower plan.now)) 9 }
 {

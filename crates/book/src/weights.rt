@@ -24,17 +24,18 @@ pub(crate) struct Witness<'a> {
     pub weights: &'a [i64],
 }
 
+// The least weight.
+const LEAST: i64 = -Book::WEIGHT;
+
 // 10 unless a weight is within its range.
+#[tactic(auto, unfolding(crate::specs::Book::weight_rule))]
 fn test_weight(y: i64) -> Result<(), Refusal>
     ensures { number_of result ≡ unless (weight_rule y) 10 }
 {
-    if y < -Book::WEIGHT {
-        return Err(Refusal::Weights);
+    match y {
+        LEAST..=Book::WEIGHT => Ok(()),
+        _ => Err(Refusal::Weights),
     }
-    if Book::WEIGHT < y {
-        return Err(Refusal::Weights);
-    }
-    Ok(())
 }
 
 // 10 unless every weight is within its range.
@@ -111,7 +112,7 @@ impl Witness<'_> {
     }
 
     // 10 unless the weights vouch for the plan.
-    #[tactic(auto, unfolding(workfunction::specs::Plan::vouch_rule))]
+    #[tactic(auto, using(base::proofs::Numbers::holds), unfolding(workfunction::specs::Plan::vouch_rule, base::specs::Tests::all_below))]
     fn test_vouching(self) -> Result<(), Refusal>
         requires { Weighed (length self.plan.now) self.plan.now self.weights.now }
         ensures { number_of result ≡ unless (vouch_rule (length self.entry.starts.now) (length self.entry.plan.now) (follower self.entry.plan.now) (cost self.entry) (weight self.entry.weights.now)) 10 }
@@ -123,6 +124,7 @@ impl Witness<'_> {
     }
 
     // 10 unless the weights are within their range and vouch for the plan.
+    #[tactic(auto, using(base::proofs::Numbers::up, base::proofs::Numbers::first_stops, base::proofs::Numbers::second_decides, crate::proofs::Vouching::weighed))]
     pub fn test(self) -> Result<(), Refusal>
         requires { (length self.weights.now ≡ length self.plan.now) × Followed (length self.plan.now) self.plan.now self.weights.now }
         ensures { number_of result ≡ weights_refusal (length self.entry.starts.now) (length self.entry.plan.now) self.entry.plan.now self.entry.weights.now (cost self.entry) }
