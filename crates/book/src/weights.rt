@@ -39,6 +39,7 @@ fn test_weight(y: i64) -> Result<(), Refusal>
 }
 
 // 10 unless every weight is within its range.
+#[tactic(auto, using(base::proofs::Numbers::holds, crate::proofs::Vouching::read_back), unfolding(base::specs::Tests::all_below))]
 fn test_range(weights: &[i64]) -> Result<(), Refusal>
     ensures { number_of result ≡ unless (range_rule (length weights.now) (weight weights.now)) 10 }
 {
@@ -61,6 +62,7 @@ fn test_slack(y: i64, kept: i64, leg: u32, own: u32) -> Result<(), Refusal>
 
 // 10 unless the inequality of stop p and follower b holds, where b may follow p: y and leg are those of b, kept and own those of
 // the follower of p.
+#[tactic(auto, unfolding(workfunction::specs::Plan::may_follow))]
 fn test_at(
     cranes: usize,
     p: usize,
@@ -90,6 +92,7 @@ impl Witness<'_> {
     }
 
     // 10 unless the inequality of stop p holds for every b that may follow it.
+    #[tactic(auto, unfolding(base::specs::Tests::all_below))]
     fn test_from(self, p: usize) -> Result<(), Refusal>
         requires { (p < length self.plan.now) × Weighed (length self.plan.now) self.plan.now self.weights.now }
         ensures { number_of result ≡ unless (vouch_from self.entry p) 10 }

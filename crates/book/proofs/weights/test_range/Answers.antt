@@ -7,12 +7,7 @@ use Rattle.book.proofs.Vouching.{read_back}
 use Rattle.book.proofs.weights.test_range.Invariants.{rule}
 use Rattle.book.proofs.weights.test_range.Goals as goal
 
-pub loop-y-init : goal.loop-y-init
-loop-y-init c = begun _ _
-
 pub returns-in_err-test_weight : goal.returns-in_err-test_weight
 returns-in_err-test_weight c = up _ _ _ c.from_residual.ensures.1
     (stops_below _ (length c.args.weights.now) c.loop-y.y-index 10 (rule c.args.weights.now) (rw (read_back _ c.test_weight-arg-1.given) at c.in_err-test_weight.ensures) c.loop-y-test.true)
 
-pub loop-y-preserved : goal.loop-y-preserved
-loop-y-preserved c = turns _ c.loop-y.y-index 9 _ (rw (read_back _ c.test_weight-arg-1.given) at c.in_ok-test_weight.ensures) c.loop-y-test.true c.loop-y.invariant

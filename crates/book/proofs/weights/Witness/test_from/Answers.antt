@@ -7,8 +7,10 @@ use lib.ListN.{length}
 use lib.Signed.{le_z}
 use mir.Syntax.{w64}
 use mir.Val.{to_z, of_z}
+use native.Mathlib.Numerals.{add-one}
 use Rattle.base.specs.Numbers.{unless}
-use Rattle.base.proofs.Numbers.{up, turns, stops_below}
+use Rattle.base.specs.Tests.{all_below}
+use Rattle.base.proofs.Numbers.{up, holds, stops_below}
 use Rattle.base.proofs.Tests.{begun}
 use Rattle.workfunction.specs.Plan.{may_follow}
 use Rattle.book.specs.Book.{follower, weight}
@@ -28,13 +30,11 @@ same c =
     (read_back _ c.test_at-arg-1.given) (read_back _ c.test_at-arg-in-loop-b-1.given ∙ ap (weight c.args.self.weights.now) c.from-kept.ensures)
     c.leg-way.ensures (rw c.from-kept.ensures at c.leg-own.ensures)
 
-pub loop-b-init : goal.loop-b-init
-loop-b-init c = begun _ _
-
 pub returns-in_err-test_at : goal.returns-in_err-test_at
 returns-in_err-test_at c = up _ _ _ c.from_residual.ensures.1
     (stops_below _ (length c.args.self.plan.now) c.loop-b.b 10 (vouches c.args.self c.args.p)
     (c.in_err-test_at.ensures ∙ ap (λ (r : Bool). unless r 10) (same (goal.at.returns-in_err-test_at c).After-test_at)) c.loop-b-test.true)
 
 pub loop-b-preserved : goal.loop-b-preserved
-loop-b-preserved c = turns _ c.loop-b.b 9 _ (c.in_ok-test_at.ensures ∙ ap (λ (r : Bool). unless r 10) (same (goal.at.loop-b-preserved c).After-test_at)) c.loop-b-test.true c.loop-b.invariant
+unfolding all_below
+loop-b-preserved c = rw (add-one, c.loop-b.invariant) (holds _ 9 (c.in_ok-test_at.ensures ∙ ap (λ (r : Bool). unless r 10) (same (goal.at.loop-b-preserved c).After-test_at)))
