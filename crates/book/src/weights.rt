@@ -50,6 +50,7 @@ fn test_range(weights: &[i64]) -> Result<(), Refusal>
 }
 
 // 10 unless one weight less another is at most one leg less another.
+#[tactic(auto, using(crate::proofs::Vouching::weights_fit, crate::proofs::Vouching::slack_read))]
 fn test_slack(y: i64, kept: i64, leg: u32, own: u32) -> Result<(), Refusal>
     requires { (weight_rule y ≡ true) × (weight_rule kept ≡ true) }
     ensures { number_of result ≡ unless (le_z (y -ℤ kept) (pos leg -ℤ pos own)) 10 }
@@ -83,6 +84,7 @@ fn test_at(
 
 impl Witness<'_> {
     // The cost of the leg from stop p to follower b.
+    #[tactic(auto, unfolding(workfunction::specs::Plan::leg_cost))]
     fn leg(self, p: usize, b: usize) -> u32
         ensures { result ≡ cost self.entry p b }
     {

@@ -4,7 +4,6 @@ use Prim.Native.Nat.{ℕ}
 use mathlib.Core.Bool.{Bool, true}
 use mathlib.Core.List.{List}
 use lib.IntN.{ℤ}
-use lib.ListN.{length}
 use mathlib.Core.Path.{◌≡◌}
 use Rattle.base.specs.Tests.{all_below}
 use Rattle.book.specs.Book.{weight, weight_rule}

@@ -11,7 +11,6 @@ use native.Mathlib.Numerals.{add-one}
 use Rattle.base.specs.Numbers.{unless}
 use Rattle.base.specs.Tests.{all_below}
 use Rattle.base.proofs.Numbers.{up, holds, stops_below}
-use Rattle.base.proofs.Tests.{begun}
 use Rattle.workfunction.specs.Plan.{may_follow}
 use Rattle.book.specs.Book.{follower, weight}
 use Rattle.book.specs.Weights.{cost, vouches}

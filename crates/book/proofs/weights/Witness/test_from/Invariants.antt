@@ -1,6 +1,5 @@
 -- `book::weights::Witness::test_from` meets its contract: the loop passes the calls and stands b for which the inequality of p holds.
 -- Assumes nothing.
-use lib.ListN.{length}
 use mathlib.Core.Bool.{true}
 use mathlib.Core.Path.{◌≡◌}
 use Rattle.base.specs.Tests.{all_below}
