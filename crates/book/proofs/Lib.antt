@@ -4,3 +4,4 @@ pub mod Metres
 pub mod Sound
 pub mod FreshBook
 pub mod Ignored
+pub mod Counts

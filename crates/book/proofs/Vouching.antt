@@ -14,11 +14,14 @@ use mir.ValLaws.{to_z-of_z}
 use native.Mathlib.Omega.{arith}
 use Rattle.base.specs.Numbers.{unless}
 use Rattle.base.proofs.Signed.{plus, minus, difference_plus, difference_minus, difference_fits, fits_64, le_not_lt}
-use Rattle.base.proofs.Tests.{below_same}
+use Rattle.base.proofs.Numbers.{holds}
+use Rattle.base.proofs.Tests.{below_same, below_at}
 use Rattle.workfunction.specs.Plan.{may_follow, plan_rule, slack_rule, vouch_at, vouch_rule, plan_cost}
 use Rattle.workfunction.proofs.Plan.{plan_facts}
 use Rattle.workfunction.proofs.Sums.{sum_same}
 use Rattle.book.specs.Book.{follower, weight, weight_rule, range_rule, weights_refusal}
+use Rattle.book.specs.Weights.{Followed, Weighed}
+use lib.ListN.{length}
 
 -- a weight read from the list
 pub read_back : (y : ℤ) → mag y < 9223372036854775808 → to_z w64 (of_z w64 y) ≡ y
@@ -134,3 +137,8 @@ module _ (k n : ℕ) (plan : List ℕ) (weights : List ℤ) (c e : ℕ → ℕ �
   unfolding plan_cost
   cost_over_legs planned same =
       sum_same n _ _ (λ p h. same p (follower plan p) h ((plan_facts k n (follower plan) planned).below p h))
+
+-- weights that were tested and accepted are within their range
+pub weighed : (plan : List ℕ) (weights : List ℤ) → length weights ≡ length plan → Followed (length plan) plan weights
+    → 0 ≡ unless (range_rule (length weights) (weight weights)) 10 → Weighed (length plan) plan weights
+weighed plan weights e f h = record { followed = f; ranged = below_at _ _ (holds _ 9 (rw e at h)) }

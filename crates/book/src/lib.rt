@@ -12,6 +12,7 @@ ghost use Rattle.base.specs.Numbers.{number_of};
 ghost use Rattle.workfunction.specs.Plan.{place};
 ghost use Rattle.book.specs.Book.{book_refusal, opening, fresh_of};
 
+use crate::weights::Witness;
 use base::Refusal;
 use dayfile::Day;
 use road::Road;
@@ -51,17 +52,14 @@ impl Book {
 
     // The place of a stop, where the first list is that of the starts, or of a follower, where it is that of the stands; 0 past
     // the calls.
+    #[tactic(auto, using(workfunction::proofs::Stops::place_stand, crate::proofs::Places::place_past, crate::proofs::Places::place_none))]
     pub fn place_of(first: &[u16], calls: &[u16], p: usize) -> u16
         ensures { result ≡ place first.now calls.now p }
     {
-        if p < first.len() {
-            return first[p];
+        match first.get(p) {
+            Some(place) => *place,
+            None => calls.get(p - first.len()).copied().unwrap_or(0),
         }
-        let i = p - first.len();
-        if i < calls.len() {
-            return calls[i];
-        }
-        0
     }
 
     // The fresh book of a day: no calls, each crane at its start, start j followed by stand j, weights and metres 0; the
@@ -77,35 +75,30 @@ impl Book {
     pub fn test(self, places: usize, table: &[u32]) -> Result<(), Refusal>
         ensures { number_of result ≡ book_refusal self places table.now }
     {
-        let cranes = self.cranes;
-        let calls = self.calls;
-        let starts = self.starts;
-        let stands = self.stands;
-        let requests = self.requests;
-        let plan = self.plan;
-        let weights = self.weights;
-        let driven = self.driven;
         let day = Day {
             places,
-            cranes,
-            calls,
-            starts,
-            requests,
+            cranes: self.cranes,
+            calls: self.calls,
+            starts: self.starts,
+            requests: self.requests,
         };
         day.test_placed(table)?;
-        Day::test_stops(places, &stands[..cranes])?;
+        Day::test_stops(places, &self.stands[..self.cranes])?;
         Road::test_triangles(places, table)?;
-        let stops = cranes + calls;
-        plan::test(cranes, stops, &plan[..])?;
-        weights::test(
+        let stops = self.cranes + self.calls;
+        plan::test(self.cranes, &self.plan[..stops])?;
+        let witness = Witness {
             table,
-            &starts[..cranes],
-            &requests[..calls],
-            &stands[..cranes],
-            stops,
-            &plan[..],
-            &weights[..],
-        )?;
-        driven::test(Road::METRES * calls as u32, &driven[..cranes])
+            starts: &self.starts[..self.cranes],
+            calls: &self.requests[..self.calls],
+            stands: &self.stands[..self.cranes],
+            plan: &self.plan[..stops],
+            weights: &self.weights[..stops],
+        };
+        witness.test()?;
+        driven::test(
+            Road::METRES * self.calls as u32,
+            &self.driven[..self.cranes],
+        )
     }
 }

@@ -1,5 +1,5 @@
 // The test of a plan: each stop's follower may follow it, and every call and every stand follows exactly one stop.
-ghost use Rattle.std.specs.Prelude.{◌≡◌, ◌&&◌, ◌≤◌, ltb, length};
+ghost use Rattle.std.specs.Prelude.{◌≡◌, ◌&&◌, ltb, length};
 ghost use Rattle.base.specs.Numbers.{number_of, unless};
 ghost use Rattle.workfunction.specs.Lists.{sum_below};
 ghost use Rattle.workfunction.specs.Plan.{may_follow, follows, followers_rule, once_rule, plan_rule};
@@ -19,49 +19,44 @@ fn test_follower(cranes: usize, stops: usize, p: usize, b: usize) -> Result<(), 
 }
 
 // 9 unless every stop's follower is in range and may follow it.
-fn test_followers(cranes: usize, stops: usize, plan: &[u16]) -> Result<(), Refusal>
-    requires { stops ≤ length plan.now }
-    ensures { number_of result ≡ unless (followers_rule cranes stops (follower plan.now)) 9 }
+#[tactic(auto, using(base::proofs::Numbers::holds), unfolding(workfunction::specs::Plan::followers_rule, base::specs::Tests::all_below))]
+fn test_followers(cranes: usize, plan: &[u16]) -> Result<(), Refusal>
+    ensures { number_of result ≡ unless (followers_rule cranes (length plan.now) (follower plan.now)) 9 }
 {
-    for p in 0..stops {
-        test_follower(cranes, stops, p, usize::from(plan[p]))?;
+    for (p, b) in plan.iter().enumerate() {
+        test_follower(cranes, plan.len(), p, usize::from(*b))?;
     }
     Ok(())
 }
 
 // How many stops are followed by b.
-fn count(stops: usize, plan: &[u16], b: usize) -> usize
-    requires { stops ≤ length plan.now }
-    ensures { result ≡ sum_below stops (follows (follower plan.now) b) }
+#[tactic(auto, using(crate::proofs::Counts::counted))]
+fn count(plan: &[u16], b: usize) -> usize
+    ensures { result ≡ sum_below (length plan.now) (follows (follower plan.now) b) }
 {
-    let mut found = 0;
-    for p in 0..stops {
-        if usize::from(plan[p]) == b {
-            found += 1;
-        }
-    }
-    found
+    plan.iter()
+        .filter(|follower| usize::from(**follower) == b)
+        .count()
 }
 
 // 9 unless every follower follows exactly one stop.
-fn test_once(stops: usize, plan: &[u16]) -> Result<(), Refusal>
-    requires { stops ≤ length plan.now }
-    ensures { number_of result ≡ unless (once_rule stops (follower plan.now)) 9 }
+#[tactic(auto, unfolding(workfunction::specs::Plan::once_rule, base::specs::Tests::all_below))]
+fn test_once(plan: &[u16]) -> Result<(), Refusal>
+    ensures { number_of result ≡ unless (once_rule (length plan.now) (follower plan.now)) 9 }
 {
-    for b in 0..stops {
-        let times = count(stops, plan, b);
-        if times != 1 {
+    for b in 0..plan.len() {
+        if count(plan, b) != 1 {
             return Err(Refusal::Plan);
         }
     }
     Ok(())
 }
 
-// 9 unless the followers are a plan.
-pub(crate) fn test(cranes: usize, stops: usize, plan: &[u16]) -> Result<(), Refusal>
-    requires { stops ≤ length plan.now }
-    ensures { number_of result ≡ unless (plan_rule cranes stops (follower plan.now)) 9 }
+// 9 unless the followers of all stops are a plan.
+#[tactic(auto, using(base::proofs::Numbers::up, base::proofs::Numbers::first_stops, base::proofs::Numbers::second_decides), unfolding(workfunction::specs::Plan::plan_rule))]
+pub(crate) fn test(cranes: usize, plan: &[u16]) -> Result<(), Refusal>
+    ensures { number_of result ≡ unless (plan_rule cranes (length plan.now) (follower plan.now)) 9 }
 {
-    test_followers(cranes, stops, plan)?;
-    test_once(stops, plan)
+    test_followers(cranes, plan)?;
+    test_once(plan)
 }

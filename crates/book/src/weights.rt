@@ -1,42 +1,56 @@
 // The test of weights, the dual variables: each within its range, and together vouching for the plan.
-ghost use Rattle.std.specs.Prelude.{true, cond, ◌≡◌, ◌<◌, ◌≤◌, pos, ◌-ℤ◌, length};
+ghost use Rattle.std.specs.Prelude.{true, cond, ◌≡◌, ◌<◌, pos, ◌-ℤ◌, length};
 ghost use Rattle.std.specs.Int.Signed.{le_z};
 ghost use Rattle.base.specs.Numbers.{number_of, unless};
-ghost use Rattle.base.specs.Tests.{all_below};
-ghost use Rattle.road.specs.Table.{metres_of, entry};
-ghost use Rattle.workfunction.specs.Plan.{may_follow, vouch_at, vouch_rule, leg_cost};
+ghost use Rattle.workfunction.specs.Plan.{may_follow, vouch_rule};
 ghost use Rattle.book.specs.Book.{follower, weight, weight_rule, range_rule, weights_refusal};
-ghost use Rattle.book.specs.Weights.{Followed, Weighed};
+ghost use Rattle.book.specs.Weights.{Followed, Weighed, cost, vouch_from};
 
 use crate::Book;
 use base::Refusal;
 use road::Road;
 
+// A plan with its weights, over the legs of the table between stops and followers.
+#[derive(Clone, Copy)]
+pub(crate) struct Witness<'a> {
+    pub table: &'a [u32],
+    // The places of the starts, of the calls and of the stands.
+    pub starts: &'a [u16],
+    pub calls: &'a [u16],
+    pub stands: &'a [u16],
+    // The follower of each stop.
+    pub plan: &'a [u16],
+    // The weight of each follower.
+    pub weights: &'a [i64],
+}
+
+// The least weight.
+const LEAST: i64 = -Book::WEIGHT;
+
 // 10 unless a weight is within its range.
+#[tactic(auto, unfolding(crate::specs::Book::weight_rule))]
 fn test_weight(y: i64) -> Result<(), Refusal>
     ensures { number_of result ≡ unless (weight_rule y) 10 }
 {
-    if y < -Book::WEIGHT {
-        return Err(Refusal::Weights);
+    match y {
+        LEAST..=Book::WEIGHT => Ok(()),
+        _ => Err(Refusal::Weights),
     }
-    if Book::WEIGHT < y {
-        return Err(Refusal::Weights);
-    }
-    Ok(())
 }
 
 // 10 unless every weight is within its range.
-fn test_range(stops: usize, weights: &[i64]) -> Result<(), Refusal>
-    requires { stops ≤ length weights.now }
-    ensures { number_of result ≡ unless (range_rule stops (weight weights.now)) 10 }
+#[tactic(auto, using(base::proofs::Numbers::holds, crate::proofs::Vouching::read_back), unfolding(base::specs::Tests::all_below))]
+fn test_range(weights: &[i64]) -> Result<(), Refusal>
+    ensures { number_of result ≡ unless (range_rule (length weights.now) (weight weights.now)) 10 }
 {
-    for i in 0..stops {
-        test_weight(weights[i])?;
+    for y in weights {
+        test_weight(*y)?;
     }
     Ok(())
 }
 
 // 10 unless one weight less another is at most one leg less another.
+#[tactic(auto, using(crate::proofs::Vouching::weights_fit, crate::proofs::Vouching::slack_read))]
 fn test_slack(y: i64, kept: i64, leg: u32, own: u32) -> Result<(), Refusal>
     requires { (weight_rule y ≡ true) × (weight_rule kept ≡ true) }
     ensures { number_of result ≡ unless (le_z (y -ℤ kept) (pos leg -ℤ pos own)) 10 }
@@ -47,17 +61,9 @@ fn test_slack(y: i64, kept: i64, leg: u32, own: u32) -> Result<(), Refusal>
     Err(Refusal::Weights)
 }
 
-// The cost of the leg from stop p to follower b.
-fn leg(table: &[u32], starts: &[u16], calls: &[u16], stands: &[u16], p: usize, b: usize) -> u32
-    ensures { result ≡ leg_cost (entry (metres_of table.now)) starts.now calls.now stands.now p b }
-{
-    let from = usize::from(Book::place_of(starts, calls, p));
-    let to = usize::from(Book::place_of(stands, calls, b));
-    Road::metres(table, from, to)
-}
-
 // 10 unless the inequality of stop p and follower b holds, where b may follow p: y and leg are those of b, kept and own those of
 // the follower of p.
+#[tactic(auto, unfolding(workfunction::specs::Plan::may_follow))]
 fn test_at(
     cranes: usize,
     p: usize,
@@ -76,61 +82,59 @@ fn test_at(
     Ok(())
 }
 
-// 10 unless the inequality of stop p holds for every b that may follow it.
-fn test_from(
-    table: &[u32],
-    starts: &[u16],
-    calls: &[u16],
-    stands: &[u16],
-    stops: usize,
-    plan: &[u16],
-    weights: &[i64],
-    p: usize,
-) -> Result<(), Refusal>
-    requires { (p < stops) × Weighed stops plan.now weights.now }
-    ensures { number_of result ≡ unless (all_below stops (vouch_at (length starts.now) (follower plan.now) (leg_cost (entry (metres_of table.now)) starts.now calls.now stands.now) (weight weights.now) p)) 10 }
-{
-    let kept = usize::from(plan[p]);
-    let own = leg(table, starts, calls, stands, p, kept);
-    for b in 0..stops {
-        let way = leg(table, starts, calls, stands, p, b);
-        test_at(starts.len(), p, b, weights[b], weights[kept], way, own)?;
+impl Witness<'_> {
+    // The cost of the leg from stop p to follower b.
+    #[tactic(auto, unfolding(workfunction::specs::Plan::leg_cost))]
+    fn leg(self, p: usize, b: usize) -> u32
+        ensures { result ≡ cost self.entry p b }
+    {
+        let from = usize::from(Book::place_of(self.starts, self.calls, p));
+        let to = usize::from(Book::place_of(self.stands, self.calls, b));
+        Road::metres(self.table, from, to)
     }
-    Ok(())
-}
 
-// 10 unless the weights vouch for the plan.
-fn test_vouching(
-    table: &[u32],
-    starts: &[u16],
-    calls: &[u16],
-    stands: &[u16],
-    stops: usize,
-    plan: &[u16],
-    weights: &[i64],
-) -> Result<(), Refusal>
-    requires { Weighed stops plan.now weights.now }
-    ensures { number_of result ≡ unless (vouch_rule (length starts.now) stops (follower plan.now) (leg_cost (entry (metres_of table.now)) starts.now calls.now stands.now) (weight weights.now)) 10 }
-{
-    for p in 0..stops {
-        test_from(table, starts, calls, stands, stops, plan, weights, p)?;
+    // 10 unless the inequality of stop p holds for every b that may follow it.
+    #[tactic(auto, unfolding(base::specs::Tests::all_below))]
+    fn test_from(self, p: usize) -> Result<(), Refusal>
+        requires { (p < length self.plan.now) × Weighed (length self.plan.now) self.plan.now self.weights.now }
+        ensures { number_of result ≡ unless (vouch_from self.entry p) 10 }
+    {
+        let kept = usize::from(self.plan[p]);
+        let own = self.leg(p, kept);
+        for b in 0..self.plan.len() {
+            let way = self.leg(p, b);
+            test_at(
+                self.starts.len(),
+                p,
+                b,
+                self.weights[b],
+                self.weights[kept],
+                way,
+                own,
+            )?;
+        }
+        Ok(())
     }
-    Ok(())
-}
 
-// 10 unless the weights are within their range and vouch for the plan, over the legs of the table.
-pub(crate) fn test(
-    table: &[u32],
-    starts: &[u16],
-    calls: &[u16],
-    stands: &[u16],
-    stops: usize,
-    plan: &[u16],
-    weights: &[i64],
-) -> Result<(), Refusal>
-    requires { Followed stops plan.now weights.now }
-    ensures { number_of result ≡ weights_refusal (length starts.now) stops plan.now weights.now (leg_cost (entry (metres_of table.now)) starts.now calls.now stands.now) }
-{
-    test_range(stops, weights)?;
-    test_vouching(table, starts, calls, stands, stops, plan, weights)
+    // 10 unless the weights vouch for the plan.
+    #[tactic(auto, using(base::proofs::Numbers::holds), unfolding(workfunction::specs::Plan::vouch_rule, base::specs::Tests::all_below))]
+    fn test_vouching(self) -> Result<(), Refusal>
+        requires { Weighed (length self.plan.now) self.plan.now self.weights.now }
+        ensures { number_of result ≡ unless (vouch_rule (length self.entry.starts.now) (length self.entry.plan.now) (follower self.entry.plan.now) (cost self.entry) (weight self.entry.weights.now)) 10 }
+    {
+        for p in 0..self.plan.len() {
+            self.test_from(p)?;
+        }
+        Ok(())
+    }
+
+    // 10 unless the weights are within their range and vouch for the plan.
+    #[tactic(auto, using(base::proofs::Numbers::up, base::proofs::Numbers::first_stops, base::proofs::Numbers::second_decides, crate::proofs::Vouching::weighed))]
+    pub fn test(self) -> Result<(), Refusal>
+        requires { (length self.weights.now ≡ length self.plan.now) × Followed (length self.plan.now) self.plan.now self.weights.now }
+        ensures { number_of result ≡ weights_refusal (length self.entry.starts.now) (length self.entry.plan.now) self.entry.plan.now self.entry.weights.now (cost self.entry) }
+    {
+        test_range(self.weights)?;
+        self.test_vouching()
+    }
 }

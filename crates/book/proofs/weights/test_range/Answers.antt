@@ -1,17 +1,11 @@
 -- `book::weights::test_range` meets its contract: the loop passes the weights within their range.
 -- Assumes nothing.
-use Rattle.base.proofs.Numbers.{up, turns, stops_below}
-use Rattle.base.proofs.Tests.{begun}
+use lib.ListN.{length}
+use Rattle.base.proofs.Numbers.{up, stops_below}
 use Rattle.book.proofs.Vouching.{read_back}
 use Rattle.book.proofs.weights.test_range.Invariants.{rule}
 use Rattle.book.proofs.weights.test_range.Goals as goal
 
-pub loop-i-init : goal.loop-i-init
-loop-i-init c = begun _ _
-
 pub returns-in_err-test_weight : goal.returns-in_err-test_weight
 returns-in_err-test_weight c = up _ _ _ c.from_residual.ensures.1
-    (stops_below _ c.args.stops c.loop-i.i 10 (rule c.args.weights.now) (rw (read_back _ c.test_weight-arg-1.given) at c.in_err-test_weight.ensures) c.loop-i-test.true)
-
-pub loop-i-preserved : goal.loop-i-preserved
-loop-i-preserved c = turns _ c.loop-i.i 9 _ (rw (read_back _ c.test_weight-arg-1.given) at c.in_ok-test_weight.ensures) c.loop-i-test.true c.loop-i.invariant
+    (stops_below _ (length c.args.weights.now) c.loop-y.y-index 10 (rule c.args.weights.now) (rw (read_back _ c.test_weight-arg-1.given) at c.in_err-test_weight.ensures) c.loop-y-test.true)
