@@ -9,6 +9,7 @@ use lib.ListN.{length, get_or, set, length-set, length-append}
 use lib.Seq.{get_or-set_other}
 use native.Mathlib.Nat.{le_of_lt}
 use native.Mathlib.Omega.{arith}
+use Rattle.std.specs.Prelude.{Option}
 use Rattle.road.specs.Table.{most_metres}
 use Rattle.dayfile.specs.Day.{most_calls}
 use Rattle.workfunction.specs.Choice.{moved, drive}
@@ -21,7 +22,6 @@ use Rattle.workfunction.proofs.Stops.{follower_placed, stops_more}
 use Rattle.workfunction.proofs.Sums.{sum_same, sum_most, entry_in}
 use Rattle.workfunction.proofs.Witness.{witness_work}
 use Rattle.book.specs.Book.{most_stops, follower, weight}
-use Rattle.dispatch.specs.declared.insert.Pick.{Pick}
 use Rattle.dispatch.specs.Insertion.{least_end, picked, Found, Inserted, Unmoved, Roads, Kept, Answered, Netted}
 use Rattle.dispatch.specs.Legs.{leg_at, FollowerPut, StopAdded}
 use Rattle.dispatch.proofs.Insertion.{netted_choice, found_netted, inserted_served}
@@ -127,7 +127,7 @@ module _ {n : ℕ} {d read : ℕ → ℕ → ℕ} (roads : Roads n d read) {star
           (witness_work roads.laws k.asked.day (follower plan') (weight (set weights' s (pos 0)))
           k.certified.planned k.standing k.certified.vouched)
 
-      pub call_answered : length calls < most_calls → {pick : Pick}
+      pub call_answered : length calls < most_calls → {pick : Option ℕ}
           → s ≡ picked pick (least_end (length starts) (stops starts calls) taken.net_end (leg_at longer))
           → {metres least : ℕ} → metres ≡ read (get_or stands s 0) r
           → least ≡ plan_cost (stops starts calls + 1) (leg_at left) (follower plan')

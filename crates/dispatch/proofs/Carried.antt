@@ -11,6 +11,7 @@ use lib.Seq.{get_or-take}
 use native.Mathlib.Decide.{dec_lt}
 use native.Mathlib.Nat.{le_trans}
 use native.Mathlib.Omega.{arith}
+use Rattle.std.specs.Prelude.{Option, Some}
 use Rattle.base.proofs.Tests.{below_all}
 use Rattle.road.specs.Table.{Table, most_places, most_metres, metres_of, entry}
 use Rattle.road.proofs.Surveyed.{Surveyed}
@@ -22,8 +23,6 @@ use Rattle.workfunction.proofs.Stops.{stop_placed}
 use Rattle.workfunction.proofs.Sums.{entry_in}
 use Rattle.book.specs.declared.Book.{Book}
 use Rattle.book.specs.Book.{most_stops, starts_of, stands_of, requests_of, driven_of, stops_of, follower, weight, driven_rule, BookArrays, SameBook, book_refusal}
-use Rattle.dispatch.specs.declared.insert.Pick.{Pick}
-use Rattle.dispatch.specs.declared.insert.Pick.TheVariants.{End}
 use Rattle.dispatch.specs.Commit.{tidied, book_after, drive_of, least_after, Committed, Next}
 use Rattle.dispatch.specs.Insertion.{Kept, Answered, Unmoved}
 use Rattle.dispatch.specs.Legs.{Costed, LegTable, BookGiven}
@@ -85,7 +84,7 @@ kept_sound {n = n} fits counts surveyed k driven = let c = rw (starts-long fits,
 }
 
 module _ {book : Book} {n : ℕ} {t : Table} (arrays : BookArrays book) (s : Sound book n t) {r : ℕ} (on : r < n) (space : book.calls < most_calls)
-    {pick : Pick} {told : Served} {stands plan : List ℕ} {weights : List ℤ} {costs : List ℕ}
+    {pick : Option ℕ} {told : Served} {stands plan : List ℕ} {weights : List ℤ} {costs : List ℕ}
     (answered : Answered n (metres_of t) (starts_of book) (requests_of book) (stands_of book) r pick told stands plan weights costs) where
   fits : Fits book
   fits = sound_fits arrays s
@@ -151,7 +150,7 @@ module _ {book : Book} {n : ℕ} {t : Table} (arrays : BookArrays book) (s : Sou
       either (no h) = rw (none j (omega arith)) (omega (arith, drive-short))
 
   -- what is told of the call, where the crane is a given one
-  pub committed-after : {old : Book} {crane : ℕ} → pick ≡ End crane → book ≡ tidied old → SameBook book old
+  pub committed-after : {old : Book} {crane : ℕ} → pick ≡ Some crane → book ≡ tidied old → SameBook book old
       → ◌≡◌ {A = Committed} (record { number = 0; least = told.least; book = after })
       (record { number = 0; least = least_after old n t r crane; book = book_after (tidied old) crane r (drive_of old t r crane) plan weights })
   unfolding served_by

@@ -9,6 +9,7 @@ use lib.Seq.{take_all, take_at, drop-cons, take-suc, drop-drop, get_or-drop}
 use native.Mathlib.Nat.{add-zero, le_antisymm}
 use native.Mathlib.Numerals.{add-one}
 use native.Mathlib.Omega.{arith}
+use Rattle.std.specs.Prelude.{Option, None}
 use Rattle.base.proofs.Lists.{length-padded, take_kept, drop-replicate, Filled, fill_begun, fill_turned, fill_ended}
 use Rattle.road.specs.Table.{Table, most_places, metres_of, entry}
 use Rattle.road.proofs.Surveyed.{surveyed_metric}
@@ -25,8 +26,6 @@ use Rattle.workfunction.proofs.Serving.{stands_then_lem}
 use Rattle.workfunction.proofs.Sums.{sum_last}
 use Rattle.book.specs.declared.Book.{Book}
 use Rattle.book.specs.Book.{most_stops, starts_of, stands_of, requests_of, BookArrays, fresh_book}
-use Rattle.dispatch.specs.declared.insert.Pick.{Pick}
-use Rattle.dispatch.specs.declared.insert.Pick.TheVariants.{Least}
 use Rattle.dispatch.specs.Insertion.{Asked, Kept, Answered, EndsGiven, HomeGiven, DayDone}
 use Rattle.dispatch.specs.Legs.{plan_room, Costed, LegTable}
 use Rattle.dispatch.specs.Quote.{unserved}
@@ -87,7 +86,7 @@ module _ (n : ℕ) (d : ℕ → ℕ → ℕ) (starts requests stands₀ cranes�
 
       pub run_turned : length requests ≤ length cranes₀ → length requests ≤ length metres₀ → length requests ≤ length leasts₀
           → {told : Served} {stands' plan' : List ℕ} {weights' : List ℤ} {costs' : List ℕ}
-          → Answered n d starts calls stands r Least told stands' plan' weights' costs'
+          → Answered n d starts calls stands r None told stands' plan' weights' costs'
           → Running stands' plan' weights' costs' (set cranes i told.crane) (set metres i told.metres) (set leasts i told.least)
           (driven + told.metres) (i + 1)
       run_turned long long' long'' {told} answer =
@@ -120,7 +119,7 @@ module _ (n : ℕ) (d : ℕ → ℕ → ℕ) (starts requests stands₀ cranes�
 
 -- the number of the crane sent
 pub crane_few : {n : ℕ} {d : ℕ → ℕ → ℕ} {starts calls stands plan : List ℕ} {weights : List ℤ} {costs : List ℕ}
-    → Kept n d starts calls stands plan weights costs → {r : ℕ} {pick : Pick} {told : Served} {stands' plan' : List ℕ} {weights' : List ℤ}
+    → Kept n d starts calls stands plan weights costs → {r : ℕ} {pick : Option ℕ} {told : Served} {stands' plan' : List ℕ} {weights' : List ℤ}
     {costs' : List ℕ} → Answered n d starts calls stands r pick told stands' plan' weights' costs' → told.crane < most_cranes
 crane_few kept answer =
     let below = answer.crane in

@@ -1,6 +1,6 @@
 -- One more call taken into a plan with its weights, the ends of a plan moved, and a day that is under way: no public contract cites
 -- these. The new call has the number N.
-use Rattle.std.specs.Prelude.{ℕ, ◌+◌, ◌*◌, ◌<◌, ◌≤◌, true, cond, List, [], ◌∷◌, ◌++◌, ◌≡◌, eqb, ℤ, length, get_or, set, drop}
+use Rattle.std.specs.Prelude.{ℕ, ◌+◌, ◌*◌, ◌<◌, ◌≤◌, true, cond, List, [], ◌∷◌, ◌++◌, ◌≡◌, eqb, ℤ, length, get_or, set, drop, Option, None, Some}
 use Rattle.base.specs.Lists.{up_to}
 use Rattle.base.specs.Metric.{Metric}
 use Rattle.road.specs.Table.{Table, most_places, most_metres, metres_of}
@@ -14,8 +14,6 @@ use Rattle.workfunction.specs.Position.{Position}
 use Rattle.workfunction.specs.Serving.{Served, served_by, serve, stands_after}
 use Rattle.book.specs.declared.Book.{Book}
 use Rattle.book.specs.Book.{most_stops, starts_of, stands_of, requests_of, stops_of, follower, weight}
-use Rattle.dispatch.specs.declared.insert.Pick.{Pick}
-use Rattle.dispatch.specs.declared.insert.Pick.TheVariants.{Least, End}
 use Rattle.dispatch.specs.Legs.{plan_room, leg_at, Costed, LegTable}
 use Rattle.dispatch.specs.Search.{at, net_base, net_of, Sized, Certified, Witnessed, Totalled, Searched, Reweighed}
 use Rattle.dispatch.specs.Quote.{quote_refusal}
@@ -59,9 +57,9 @@ abbrev pub least_end : ℕ → ℕ → (ℕ → ℕ) → (ℕ → ℕ → ℕ) �
 least_end k N net_end c = preferred ((λ e. net_end e + c N e) ∷ c N ∷ []) k
 
 -- the end that is picked: the least one, or a given one
-abbrev pub picked : Pick → ℕ → ℕ
-picked Least e = e
-picked (End s) e = s
+abbrev pub picked : Option ℕ → ℕ → ℕ
+picked None e = e
+picked (Some s) e = s
 
 -- what the search delivers of the ends: of each the stop that it follows and its net cost
 pub record Found (k N : ℕ) (f : ℕ → ℕ) (c : ℕ → ℕ → ℕ) (total parent rank before net_end : ℕ → ℕ) : Type 0 where
@@ -93,7 +91,7 @@ pub record FindGiven (k N : ℕ) (plan : List ℕ) (weights : List ℤ) (costs :
   pub witnessed : Witnessed k N plan weights costs
 
 -- what taking in a call is given
-pub record InsertGiven (k N : ℕ) (pick : Pick) (plan : List ℕ) (weights : List ℤ) (costs : List ℕ) : Type 0 where
+pub record InsertGiven (k N : ℕ) (pick : Option ℕ) (plan : List ℕ) (weights : List ℤ) (costs : List ℕ) : Type 0 where
   pub crane : 0 < k
   pub cranes : k ≤ most_cranes
   pub stops : k ≤ N
@@ -104,7 +102,7 @@ pub record InsertGiven (k N : ℕ) (pick : Pick) (plan : List ℕ) (weights : Li
   pub witnessed : Witnessed k N plan weights costs
 
 -- the call is taken in for the end s, the one that is picked; entries past N are as they were
-pub record CallInserted (k N : ℕ) (pick : Pick) (costs plan : List ℕ) (weights : List ℤ) (s : ℕ) (plan' : List ℕ) (weights' : List ℤ) : Type 0 where
+pub record CallInserted (k N : ℕ) (pick : Option ℕ) (costs plan : List ℕ) (weights : List ℤ) (s : ℕ) (plan' : List ℕ) (weights' : List ℤ) : Type 0 where
   pub taken : Inserted k N (follower (set plan N N)) (leg_at costs) s (follower plan') (weight weights) (weight weights')
   pub chosen : s ≡ picked pick (least_end k N taken.net_end (leg_at costs))
   pub unmoved : Unmoved N plan weights plan' weights'
@@ -216,7 +214,7 @@ pub record HomeGiven (read : ℕ → ℕ → ℕ) (stands starts costs : List �
   pub costed : Costed costs
 
 -- a call at r served by a crane of the stands: the figures, and the day that is under way after it
-pub record Answered (n : ℕ) (d : ℕ → ℕ → ℕ) (starts calls stands : List ℕ) (r : ℕ) (pick : Pick) (told : Served) (stands' plan' : List ℕ)
+pub record Answered (n : ℕ) (d : ℕ → ℕ → ℕ) (starts calls stands : List ℕ) (r : ℕ) (pick : Option ℕ) (told : Served) (stands' plan' : List ℕ)
     (weights' : List ℤ) (costs' : List ℕ) : Type 0 where
   pub crane : told.crane < length stands
   pub chosen : told.crane ≡ picked pick (choice d n starts calls stands r)
@@ -225,7 +223,7 @@ pub record Answered (n : ℕ) (d : ℕ → ℕ → ℕ) (starts calls stands : L
   pub kept : Kept n d starts (calls ++ (r ∷ [])) stands' plan' weights' costs'
 
 -- what serving a call at r is given: a day under way over some places and metres, and room for the call
-pub record CallGiven (read : ℕ → ℕ → ℕ) (starts calls : List ℕ) (r : ℕ) (pick : Pick) (stands plan : List ℕ) (weights : List ℤ) (costs : List ℕ) : Type 0 where
+pub record CallGiven (read : ℕ → ℕ → ℕ) (starts calls : List ℕ) (r : ℕ) (pick : Option ℕ) (stands plan : List ℕ) (weights : List ℤ) (costs : List ℕ) : Type 0 where
   pub places : ℕ
   pub metres : ℕ → ℕ → ℕ
   pub roads : Roads places metres read
@@ -235,7 +233,7 @@ pub record CallGiven (read : ℕ → ℕ → ℕ) (starts calls : List ℕ) (r :
   pub ends : (e : ℕ) → e < length starts → picked pick e < length starts
 
 -- what serving it delivers, over all places and metres that it may be a day over
-pub record CallServed (read : ℕ → ℕ → ℕ) (starts calls : List ℕ) (r : ℕ) (pick : Pick) (stands plan : List ℕ) (weights : List ℤ) (costs : List ℕ)
+pub record CallServed (read : ℕ → ℕ → ℕ) (starts calls : List ℕ) (r : ℕ) (pick : Option ℕ) (stands plan : List ℕ) (weights : List ℤ) (costs : List ℕ)
     (told : Served) (stands' plan' : List ℕ) (weights' : List ℤ) (costs' : List ℕ) : Type 0 where
   pub answered : (n : ℕ) (d : ℕ → ℕ → ℕ) → Roads n d read → Kept n d starts calls stands plan weights costs → r < n
       → Answered n d starts calls stands r pick told stands' plan' weights' costs'

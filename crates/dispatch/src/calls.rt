@@ -2,7 +2,6 @@
 ghost use Rattle.road.specs.Table.{metres_of, entry};
 ghost use Rattle.dispatch.specs.Insertion.{TakeGiven, CallTaken, TakeAllGiven, CallsTaken};
 
-use crate::insert::Pick;
 use crate::matching::Matching;
 use crate::{insert, legs};
 
@@ -23,7 +22,7 @@ fn take(
     insert::insert(
         cranes,
         new,
-        Pick::Least,
+        None,
         &matching.costs[..],
         &mut matching.plan[..],
         &mut matching.weights[..],

@@ -3,7 +3,6 @@ ghost use Rattle.std.specs.Prelude.{◌≡◌, ℕ, Ok};
 ghost use Rattle.base.specs.Numbers.{number_of};
 ghost use Rattle.dispatch.specs.Commit.{commit_refusal, tidied, book_after, drive_of, least_after, committed, Next};
 
-use crate::insert::Pick;
 use crate::matching::Matching;
 use crate::{Commit, call, legs, serve, tidy};
 use base::Refusal;
@@ -51,7 +50,7 @@ pub(crate) fn accepted(book: Book, table: &[u32], place: u16, crane: usize) -> C
         &starts[..tidy.cranes],
         &requests[..calls],
         place,
-        Pick::End(crane),
+        Some(crane),
         &mut stands[..tidy.cranes],
         &mut matching,
     );

@@ -5,7 +5,6 @@ ghost use Rattle.workfunction.specs.Plan.{stops, leg_cost, least_plan};
 ghost use Rattle.dispatch.specs.Legs.{Costed};
 ghost use Rattle.dispatch.specs.Insertion.{EndGiven, EndMoved, EndsGiven, EndsMoved};
 
-use crate::insert::Pick;
 use crate::matching::Matching;
 use crate::{insert, legs, plan};
 
@@ -27,7 +26,7 @@ fn move_end(
     insert::insert(
         cranes,
         stops,
-        Pick::End(end),
+        Some(end),
         &matching.costs[..],
         &mut matching.plan[..],
         &mut matching.weights[..],

@@ -10,13 +10,6 @@ use crate::choice::Ends;
 use crate::search::Search;
 use crate::{flip, weights};
 
-// The end for which a call is taken in: the least one, or a given one.
-#[derive(Clone, Copy)]
-pub(crate) enum Pick {
-    Least,
-    End(usize),
-}
-
 // The search for the net costs of the call of the number `new`, which is followed by itself for the moment; and the ends, by it.
 pub(crate) fn find(
     cranes: usize,
@@ -36,22 +29,22 @@ pub(crate) fn find(
     Ends::of(cranes, new, plan, costs, &search.totals[..])
 }
 
-// The end that is picked.
-fn end(pick: Pick, cranes: usize, new: usize, ends: &Ends, costs: &[u32]) -> usize
+// The end that is picked: the given one, else the least.
+fn end(pick: Option<usize>, cranes: usize, new: usize, ends: &Ends, costs: &[u32]) -> usize
     requires { ChoiceGiven cranes new ends.now.nets costs.now }
     ensures { result ≡ picked pick (least_end cranes new (at ends.now.nets) (leg_at costs.now)) }
 {
-    let Pick::End(end) = pick else {
+    let Some(end) = pick else {
         return ends.choose(cranes, new, costs);
     };
     end
 }
 
-// Takes in the call of the number `new`, and answers the end that now follows it.
+// Takes in the call of the number `new` for the end that is given, or else for the least one, and answers the end that now follows it.
 pub(crate) fn insert(
     cranes: usize,
     new: usize,
-    pick: Pick,
+    pick: Option<usize>,
     costs: &[u32],
     plan: &mut [u16],
     weights: &mut [i64],

@@ -3,7 +3,6 @@ ghost use Rattle.std.specs.Prelude.{[], ℕ, ◌≡◌, ◌<◌, length, get_or}
 ghost use Rattle.road.specs.Table.{metres_of, entry};
 ghost use Rattle.dispatch.specs.Insertion.{Roads, Kept, CallGiven, CallServed, DayGiven, DayDone};
 
-use crate::insert::Pick;
 use crate::matching::Matching;
 use crate::{insert, legs, plan};
 use road::Road;
@@ -22,7 +21,7 @@ pub(crate) fn serve_call<const N: usize>(
     starts: &[u16],
     calls: &[u16],
     place: u16,
-    pick: Pick,
+    pick: Option<usize>,
     stands: &mut [u16],
     matching: &mut Matching<N>,
 ) -> Step
@@ -75,7 +74,7 @@ pub(crate) fn serve_all(
             starts,
             &requests[..i],
             *place,
-            Pick::Least,
+            None,
             stands,
             matching,
         );

@@ -15,7 +15,7 @@ use Rattle.dispatch.proofs.Dispatch.commit.Goals as goal
 refused : (book : Book) (n : ℕ) (t : Table) (r s : ℕ) (o : Result Commit Refusal) (x : Refusal) → IsErrAnd o (λ y. y ≡ x)
     → refusal_number x ≡ commit_refusal book n t r s
     → (committed book o ≡ commit_of book n t r s (committed book o).book.plan (committed book o).book.weights)
-      × (commit_refusal book n t r s ≡ 0 → Next (committed book o).book n t)
+    × (commit_refusal book n t r s ≡ 0 → Next (committed book o).book n t)
 unfolding commit_of
 refused book n t r s o x h e = (told_up (committed book) o x _ _ _ h e refl, λ z. absurd (refused_number x (e ∙ z)))
 

@@ -9,11 +9,11 @@ use lib.ListN.{length, set}
 use lib.Seq.{get_or-set_other}
 use native.Mathlib.Nat.{le_of_lt}
 use native.Mathlib.Omega.{arith}
+use Rattle.std.specs.Prelude.{Option}
 use Rattle.dayfile.specs.Day.{most_cranes}
 use Rattle.workfunction.proofs.Keys.{preferred_below}
 use Rattle.workfunction.proofs.Plan.{Plan}
 use Rattle.book.specs.Book.{follower, weight}
-use Rattle.dispatch.specs.declared.insert.Pick.{Pick}
 use Rattle.dispatch.specs.Insertion.{least_end, picked, Found, CallInserted}
 use Rattle.dispatch.specs.Legs.{leg_at}
 use Rattle.dispatch.specs.Search.{at, net_of, Matched, PlanFlipped, Reweighed}
@@ -23,7 +23,7 @@ use Rattle.dispatch.proofs.insert.insert.Goals as goal
 use Rattle.dispatch.proofs.insert.insert.Goals.{After-end-end, Start}
 
 -- the call is taken in: `taken` is the plan in which it is followed by itself
-call_inserted : {k N s : ℕ} {pick : Pick} {costs plan taken plan' parents : List ℕ} {weights weights' : List ℤ} {total rank before net_end : ℕ → ℕ}
+call_inserted : {k N s : ℕ} {pick : Option ℕ} {costs plan taken plan' parents : List ℕ} {weights weights' : List ℤ} {total rank before net_end : ℕ → ℕ}
     → taken ≡ set plan N N → Found k N (follower taken) (leg_at costs) total (at parents) rank before net_end → s < k
     → s ≡ picked pick (least_end k N net_end (leg_at costs)) → PlanFlipped N (before s) parents taken plan'
     → Reweighed N (follower taken) (net_of (follower taken) (leg_at costs) total) (weight weights) (weight weights')
