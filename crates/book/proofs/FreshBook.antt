@@ -2,7 +2,12 @@
 use Prim.Native.Nat.{ℕ, ◌+◌, ◌*◌, ◌<◌, ◌≤◌, zero-le}
 use mathlib.Core.Bool.{true, cond}
 use mathlib.Core.List.{List, []}
-use mathlib.Core.Path.{◌≡◌, refl, sym, ◌∙◌}
+use mathlib.Core.Path.{◌≡◌, refl, sym, ap, ◌∙◌}
+use Rattle.std.specs.Prelude.{Result, IsErrAnd}
+use Rattle.base.specs.declared.Refusal.{Refusal}
+use Rattle.base.specs.Numbers.{refusal_number}
+use Rattle.base.proofs.Numbers.{exits, zeros_told, refused_number}
+use Rattle.book.specs.declared.Book.{Book}
 use borrow.Author.Tests.{lt-ltb, le-leb, eq-eqb, ne_eqb}
 use lib.Dec.{eqb}
 use lib.IntN.{ℤ, pos}
@@ -24,7 +29,7 @@ use Rattle.dayfile.proofs.Limits.{Tested, day-tested, placed_accepted, stops_at}
 use Rattle.workfunction.specs.Plan.{may_follow, follows, followers_rule, once_rule, plan_rule, slack_rule, vouch_at, vouch_rule, place, leg_cost}
 use Rattle.workfunction.proofs.Stops.{place_stand}
 use Rattle.workfunction.proofs.Sums.{sum_same, sum_one}
-use Rattle.book.specs.Book.{most_stops, follower, weight, weight_rule, range_rule, driven_rule, book_day, book_refusal, fresh_book}
+use Rattle.book.specs.Book.{most_stops, follower, weight, weight_rule, range_rule, driven_rule, book_day, book_refusal, fresh_book, empty_book, Opened, opening, fresh_of}
 use Rattle.book.proofs.Metres.{driven-within}
 
 eqb_both_ways : (a b : ℕ) → eqb a b ≡ eqb b a
@@ -135,3 +140,19 @@ module _ (day : Day) (t : Table) (arrays : DayArrays day) (h : day_refusal day t
   fresh_sound =
       rw (fresh_placed, take-padded most_cranes k start 0, started, tests.surveyed.triangles, add-zero k, fresh_plan k, fresh_range k most)
       (rw (fresh_vouch k most _ no_way, fresh_driven k (most_metres * 0) tests.counts.cranes))
+
+-- opening a day: a refusal is handed up, and an accepted day has few enough cranes for its fresh book
+module _ (day : Day) (t : Table) where
+  pub few_cranes : 0 ≡ day_refusal day t → day.cranes ≤ most_cranes
+  few_cranes h = (day-tested day t (sym h)).counts.cranes
+
+  pub refused : (r : Result Book Refusal) (x : Refusal) → IsErrAnd r (λ y. y ≡ x) → refusal_number x ≡ day_refusal day t → opening r ≡ fresh_of day t
+  unfolding fresh_of
+  refused r x h e =
+      ap opening (exits r x h)
+      ∙ rw (← e) (zeros_told (refusal_number x) _ (λ m. record { number = m; book = empty_book }) (refused_number x))
+
+  pub opened : (book : Book) → 0 ≡ day_refusal day t → book ≡ fresh_book day.cranes day.starts
+      → ◌≡◌ {A = Opened} (record { number = 0; book = book }) (fresh_of day t)
+  unfolding fresh_of
+  opened book e q = rw (← e, q)

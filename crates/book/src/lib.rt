@@ -64,6 +64,7 @@ impl Book {
 
     // The fresh book of a day: no calls, each crane at its start, start j followed by stand j, weights and metres 0; the
     // same test of the day as for writing it.
+    #[tactic(auto, using(crate::proofs::FreshBook::few_cranes, crate::proofs::FreshBook::opened))]
     pub fn fresh(day: Day, table: &[u32]) -> Result<Book, Refusal>
         ensures { opening result ≡ fresh_of day table.now }
     {
