@@ -17,11 +17,23 @@ fn constant(rt: &impl Print, comment: &str, name: &str, places: &[u16]) -> io::R
 // The file: its head, and the two constants.
 fn file(rt: &impl Print) -> io::Result<()> {
     let columns = legorder::generate();
-    println!(rt; "// The places of each leg in the order of the day file, each entry with the index of its leg. The program `pairtable` prints this file.")?;
+    println!(rt;
+        "// The places of each leg in the order of the day file, each entry with the index of its leg. The program `pairtable` prints this file."
+    )?;
     println!(rt; "use road::Road;\n")?;
-    constant(rt, "The first place of each leg.", "FIRSTS", &columns.firsts)?;
+    constant(
+        rt,
+        "The first place of each leg.",
+        "FIRSTS",
+        &columns.firsts,
+    )?;
     println!(rt; "")?;
-    constant(rt, "The second place of each leg.", "SECONDS", &columns.seconds)
+    constant(
+        rt,
+        "The second place of each leg.",
+        "SECONDS",
+        &columns.seconds,
+    )
 }
 
 fn main(rt: HostRuntime) {
