@@ -61,13 +61,6 @@ decimal_end n start bytes rest h long e =
 
 -- ---- text behind text
 
--- a text copied into the part of a buffer from index at that is as long
-pub copied : (text old new : List ℕ) (at : ℕ) → new ≡ text → take at old ++ (new ++ drop (at + length text - at) (drop at old)) ≡ splice at text old
-unfolding splice
-copied text old new at e =
-    let long : at + length text - at ≡ length text = omega arith in
-    rw (e, long, drop-drop (length text) at old)
-
 pub put_on : {a b old mid now : List ℕ} {at x y : ℕ} → Put a old at mid x → Put b mid x now y → y ≤ length old
     → Put (a ++ b) old at now y
 put_on {a} {b} {old} {at = at} p q h =
