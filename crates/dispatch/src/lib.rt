@@ -60,7 +60,8 @@ pub struct Costs {
 }
 
 // A day served from its fresh book: of each call the crane sent, the metres that it drives and the least cost after it; the sum
-// of the drives, the way home, and the floor. Entries past the number of calls are 0.
+// of the drives, the way home, and the floor. Entries past the number of calls are 0. An array of each figure and not one of figures,
+// since `day_figures` tells them so; of a fixed size, since memory is fixed.
 #[derive(Clone, Copy)]
 pub struct ServedDay {
     pub calls: usize,

@@ -11,7 +11,7 @@ ghost use Rattle.legorder.specs.Pairs.{pairs, columns_of};
 use road::Road;
 
 // The two places of a leg.
-#[derive(Clone, Copy)]
+#[derive(Clone, Copy, PartialEq, Eq)]
 pub struct Pair {
     pub first: u16,
     pub second: u16,
