@@ -72,7 +72,7 @@ fn listed(rt: &impl Print, legs: &[Pair], columns: Columns) -> io::Result<()> {
     let many = legs
         .iter()
         .zip(places)
-        .filter(|&(&leg, (&first, &second))| same(leg, Pair { first, second }))
+        .filter(|&(&leg, (&first, &second))| leg == Pair { first, second })
         .count();
     print!(rt; " {many}")
 }
