@@ -54,14 +54,6 @@ module _ (lo hi n : ℕ) where
   unfolding within
   within_yes p q = rw (le-leb lo n p, le-leb n hi q)
 
-  pub within_below : n < lo → within lo hi n ≡ false
-  unfolding within
-  within_below p = rw (lt-leb lo n p)
-
-  pub within_above : hi < n → within lo hi n ≡ false
-  unfolding within
-  within_above p = rw (lt-leb n hi p) (and-false (leb lo n))
-
   pub within_least : within lo hi n ≡ true → lo ≤ n
   unfolding within
   within_least h = leb-true lo n ((and-eq-true_iff (leb lo n) (leb n hi)).0 h).0

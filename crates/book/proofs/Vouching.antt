@@ -33,18 +33,6 @@ module _ (y : ℤ) (f : SFits w64 y) where
   unfolding weight_rule
   weight_low h = let g = rw (to_z-of_z w64 y f) at h in rw (le_not_lt y (negsuc 1099511627775), g)
 
-  pub weight_high : lt_z (pos 1099511627776) (to_z w64 (of_z w64 y)) ≡ true → weight_rule y ≡ false
-  unfolding weight_rule
-  weight_high h = let g = rw (to_z-of_z w64 y f) at h in rw (le_not_lt (pos 1099511627776) y, g) (and-false (le_z (negsuc 1099511627775) y))
-
-  pub weight-within : lt_z (to_z w64 (of_z w64 y)) (negsuc 1099511627775) ≡ false → lt_z (pos 1099511627776) (to_z w64 (of_z w64 y)) ≡ false
-      → weight_rule y ≡ true
-  unfolding weight_rule
-  weight-within h l =
-      let g = rw (to_z-of_z w64 y f) at h in
-      let k = rw (to_z-of_z w64 y f) at l in
-      rw (le_not_lt y (negsuc 1099511627775), le_not_lt (pos 1099511627776) y, g, k)
-
 -- the range, by its bounds
 pub record Ranged (y : ℤ) : Type 0 where
   pub high : plus y ≤ 1099511627776

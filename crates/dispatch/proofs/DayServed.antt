@@ -117,16 +117,6 @@ module _ (n : ℕ) (d : ℕ → ℕ → ℕ) (starts requests stands₀ cranes�
           kept = rw all at run.kept;
         }
 
--- the number of the crane sent
-pub crane_few : {n : ℕ} {d : ℕ → ℕ → ℕ} {starts calls stands plan : List ℕ} {weights : List ℤ} {costs : List ℕ}
-    → Kept n d starts calls stands plan weights costs → {r : ℕ} {pick : Option ℕ} {told : Served} {stands' plan' : List ℕ} {weights' : List ℤ}
-    {costs' : List ℕ} → Answered n d starts calls stands r pick told stands' plan' weights' costs' → told.crane < most_cranes
-crane_few kept answer =
-    let below = answer.crane in
-    let many = kept.standing.cranes in
-    let few = kept.asked.cranes in
-    omega arith
-
 -- ---- a day that is accepted, with its fresh book
 
 -- no refusal applies to the day, the book is its fresh one, and the arrays have the lengths of their types

@@ -35,6 +35,3 @@ module _ (n : ℕ) (test : ℕ → Bool) where
       few = omega (arith, so);
       counted = rw (add-one, fails, ← so.counted, add-zero) step;
     }
-
-  pub count_ended : (found i : ℕ) → Counted n test found i → n ≤ i → found ≡ sum_below n (λ j. cond (test j) 1 0)
-  count_ended found i so le = subst (λ (k : ℕ). found ≡ sum_below k (λ j. cond (test j) 1 0)) (le_antisymm so.most le) so.counted

@@ -156,12 +156,6 @@ module _ (keys : List (ℕ → ℕ)) (e : ℕ) (some : 0 < e) where
       preferred_only keys (e + 1) (omega arith) (preferred keys e) (omega arith)
       (one_more (NoLater keys (preferred keys e)) e first (preferred-first keys e some))
 
-  pub preferred_gives_way : NoLater keys e (preferred keys e) → e ≡ preferred keys (e + 1)
-  preferred_gives_way first =
-      preferred_only keys (e + 1) (omega arith) e (omega arith)
-      (one_more (NoLater keys e) e (no_later_self keys e)
-      (λ t h. no_later_on keys e (preferred keys e) t first (preferred-first keys e some t h)))
-
 -- keys that differ from others by the same amount below k, each from its own
 pub data Shifted (k : ℕ) : List (ℕ → ℕ) → List (ℕ → ℕ) → Type 0 where
   none : Shifted k [] []

@@ -22,10 +22,6 @@ unfolding may_follow
 may_follow_lem k p b (inl h) = rw (lt-ltb b k h)
 may_follow_lem k p b (inr h) = rw (lt-ltb p b h) (or-true (ltb b k))
 
-pub may_not_follow : (k p b : ℕ) → k ≤ b → b ≤ p → may_follow k p b ≡ false
-unfolding may_follow
-may_not_follow k p b h l = rw (le-ltb b k h) (le-ltb p b l)
-
 follows_may : (k p b : ℕ) → may_follow k p b ≡ true → (b < k) ⊎ (p < b)
 unfolding may_follow
 follows_may k p b h = go (ltb b k) refl h
