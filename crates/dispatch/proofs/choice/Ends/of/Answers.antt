@@ -13,15 +13,6 @@ use Rattle.dispatch.proofs.choice.Ends.of.Goals.{Start, else-b-cranes, then-b-cr
 planned : (c : Start) → Plan c.args.cranes c.args.new (follower c.args.plan.now)
 planned c = plan_facts _ _ _ c.requires.planned
 
-pub loop-p-init : goal.loop-p-init
-loop-p-init c = free_begun _ _ _ _ _ _
-
-pub overflow_cast-b : goal.overflow_cast-b
-overflow_cast-b c = omega (arith, c.shared_slice_known-in-loop-p-1.given c.loop-p.p)
-
-pub overflow_sub-nets : goal.overflow_sub-nets
-overflow_sub-nets c = omega (arith, c.cost.ensures, c.requires.totalled.legs c.loop-p.p (le_of_lt c.loop-p-test.true))
-
 pub loop-p-preserved : goal.loop-p-preserved
 loop-p-preserved c = elim c.if-b-cranes.branch [
   | then-b-cranes w ↦ rw (w.nets-is, w.before-is) (free_taken _ _ _ _ _ _ c.loop-p.invariant (planned (goal.at.loop-p-preserved c).Start) c.loop-p-test.true w.if-b-cranes.true (rw length-replicate c.requires.cranes) (rw length-replicate c.requires.cranes)
