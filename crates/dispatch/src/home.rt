@@ -4,6 +4,7 @@ ghost use Rattle.road.specs.Table.{metres_of, entry};
 ghost use Rattle.workfunction.specs.Plan.{stops, leg_cost, least_plan};
 ghost use Rattle.dispatch.specs.Insertion.{HomeGiven};
 
+use crate::instance::Instance;
 use crate::matching::Matching;
 use crate::{ends, legs, plan, weights};
 
@@ -21,6 +22,11 @@ pub(crate) fn home(
     let weights = weights::zeros();
     matching.plan = plan;
     matching.weights = weights;
-    legs::fill(table, stands, &stands[..0], stands, &mut matching.costs[..]);
-    ends::least(table, stands, &stands[..0], starts, matching)
+    let uncalled = Instance {
+        table,
+        starts: stands,
+        calls: &stands[..0],
+    };
+    legs::fill(uncalled, stands, &mut matching.costs[..]);
+    ends::least(uncalled, starts, matching)
 }

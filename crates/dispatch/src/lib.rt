@@ -14,6 +14,7 @@ mod flip;
 mod floor;
 mod home;
 mod insert;
+mod instance;
 mod legs;
 mod lists;
 mod matching;
@@ -33,6 +34,7 @@ ghost use Rattle.dispatch.specs.PlanFloor.{floor_told, plan_floor_of};
 ghost use Rattle.dispatch.specs.Quote.{quoted, quote_of};
 ghost use Rattle.dispatch.specs.ServedDay.{day_figures, served_day};
 
+use crate::instance::Instance;
 use base::Refusal;
 use book::Book;
 use dayfile::Day;
@@ -141,6 +143,11 @@ impl Dispatch {
         day.test_placed(table)?;
         let starts = day.starts;
         let requests = day.requests;
-        Ok(floor::of_day(table, &starts[..day.cranes], &requests[..day.calls]))
+        let instance = Instance {
+            table,
+            starts: &starts[..day.cranes],
+            calls: &requests[..day.calls],
+        };
+        Ok(floor::of_day(instance))
     }
 }

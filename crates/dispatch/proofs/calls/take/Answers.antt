@@ -12,15 +12,15 @@ insert-requires c = record {
   cranes = c.requires.movable.kept.asked.cranes;
   stops = omega arith;
   ends = λ e h. h;
-  plan_long = movable_long c.requires.movable;
-  weights_long = le_trans (movable_few c.requires.movable) c.requires.movable.weights_long;
+  plan_long = omega (arith, movable_long c.requires.movable);
+  weights_long = omega (arith, movable_few c.requires.movable, c.requires.movable.weights_long);
   costed = c.extend.ensures.costed;
-  witnessed = kept_witnessed c.requires.movable.legible c.requires.movable.kept (movable_few c.requires.movable) (movable_long c.requires.movable) c.requires.on c.extend.ensures;
+  witnessed = rw c.stops-new.ensures (kept_witnessed c.requires.movable.legible c.requires.movable.kept (movable_few c.requires.movable) (movable_long c.requires.movable) c.requires.on (rw c.stops-new.ensures at c.extend.ensures));
 }
 
 pub returns : goal.returns
 returns c = record {
   there = λ n stands movable on space.
-      call_taken movable on c.extend.ensures c.insert.new.plan c.insert.new.weights c.insert.ensures.taken
-      c.insert.ensures.chosen space (omega (arith, c.insert.auto, movable.plan_long)) (omega (arith, c.insert.auto, movable.weights_long));
+      call_taken movable on (rw c.stops-new.ensures at c.extend.ensures) c.insert.new.plan c.insert.new.weights (rw c.stops-new.ensures at c.insert.ensures.taken)
+      (rw c.stops-new.ensures at c.insert.ensures.chosen) space (omega (arith, c.insert.auto, movable.plan_long)) (omega (arith, c.insert.auto, movable.weights_long));
 }

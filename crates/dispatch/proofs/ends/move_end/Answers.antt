@@ -13,7 +13,7 @@ use Rattle.dispatch.proofs.ends.move_end.Goals as goal
 use Rattle.dispatch.proofs.ends.move_end.Goals.{Start}
 
 -- there is room for the call
-few : (c : Start) → stops c.args.starts.now c.args.calls.now < plan_room
+few : (c : Start) → stops c.args.instance.starts.now c.args.instance.calls.now < plan_room
 few c = movable_few c.requires.movable
 
 -- the end is one of the cranes
@@ -30,16 +30,16 @@ insert-requires c = record {
   cranes = c.requires.movable.kept.asked.cranes;
   stops = omega arith;
   ends = λ e h. c.requires.end;
-  plan_long = movable_long c.requires.movable;
-  weights_long = le_trans (few (goal.at.insert-requires c).Start) c.requires.movable.weights_long;
+  plan_long = omega (arith, movable_long c.requires.movable);
+  weights_long = omega (arith, few (goal.at.insert-requires c).Start, c.requires.movable.weights_long);
   costed = c.extend.ensures.costed;
-  witnessed = kept_witnessed c.requires.movable.legible c.requires.movable.kept (few (goal.at.insert-requires c).Start) (movable_long c.requires.movable) c.requires.on c.extend.ensures;
+  witnessed = rw c.stops-stops.ensures (kept_witnessed c.requires.movable.legible c.requires.movable.kept (few (goal.at.insert-requires c).Start) (movable_long c.requires.movable) c.requires.on (rw c.stops-stops.ensures at c.extend.ensures));
 }
 
 pub returns : goal.returns
 returns c = record {
   there = λ n stands movable on.
-      end_moved movable on c.extend.ensures c.insert.new.plan c.insert.new.weights
-      (sent_taken c.insert.ensures.chosen c.insert.ensures.taken) c.put.ensures c.replace.ensures
+      end_moved movable on (rw c.stops-stops.ensures at c.extend.ensures) c.insert.new.plan c.insert.new.weights
+      (sent_taken c.insert.ensures.chosen (rw c.stops-stops.ensures at c.insert.ensures.taken)) c.put.ensures (rw c.stops-stops.ensures at c.replace.ensures)
       (omega (arith, c.insert.auto, movable.plan_long)) (omega (arith, c.insert.auto, movable.weights_long));
 }

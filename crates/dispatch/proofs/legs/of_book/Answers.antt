@@ -12,20 +12,20 @@ fits c = fit (record { starts = search rules; stands = search rules; requests = 
 pub slice_bounds-starts-end : goal.slice_bounds-starts-end
 slice_bounds-starts-end c = (fits (goal.at.slice_bounds-starts-end c).After-stands-1).starts
 
-pub slice_bounds-fill-end : goal.slice_bounds-fill-end
-slice_bounds-fill-end c = sym (starts-long (fits (goal.at.slice_bounds-fill-end c).After-stands-1))
+pub slice_bounds-instance-end : goal.slice_bounds-instance-end
+slice_bounds-instance-end c = sym (starts-long (fits (goal.at.slice_bounds-instance-end c).After-stands-1))
 
 pub slice_bounds-requests-end : goal.slice_bounds-requests-end
 slice_bounds-requests-end c = (fits (goal.at.slice_bounds-requests-end c).After-stands-1).requests
 
-pub slice_bounds-fill-end-2 : goal.slice_bounds-fill-end-2
-slice_bounds-fill-end-2 c = sym (requests_long (fits (goal.at.slice_bounds-fill-end-2 c).After-stands-1))
+pub slice_bounds-instance-end-2 : goal.slice_bounds-instance-end-2
+slice_bounds-instance-end-2 c = sym (requests_long (fits (goal.at.slice_bounds-instance-end-2 c).After-stands-1))
 
 pub slice_bounds-stands-end : goal.slice_bounds-stands-end
 slice_bounds-stands-end c = (fits (goal.at.slice_bounds-stands-end c).After-stands-1).stands
 
-pub slice_bounds-fill-end-3 : goal.slice_bounds-fill-end-3
-slice_bounds-fill-end-3 c = sym (stands_long (fits (goal.at.slice_bounds-fill-end-3 c).After-stands-1))
+pub slice_bounds-fill-end : goal.slice_bounds-fill-end
+slice_bounds-fill-end c = sym (stands_long (fits (goal.at.slice_bounds-fill-end c).After-stands-1))
 
 pub fill-requires : goal.fill-requires
 fill-requires c = let f = fits (goal.at.fill-requires c).After-stands-1 in

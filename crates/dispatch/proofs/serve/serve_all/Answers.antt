@@ -20,7 +20,7 @@ serve_call-step-requires c = (
     roads = c.requires.roads;
     kept = (c.loop-i.invariant.running _ _ c.requires.roads c.requires.kept c.requires.called).kept;
     on = c.requires.called _ c.loop-i-test.true;
-    space = omega (arith, length-take-le c.loop-i.i c.args.requests.now (omega arith), c.requires.few);
+    space = omega (arith, length-take-le c.loop-i.i c.args.instance.calls.now (omega arith), c.requires.few);
     ends = λ e h. h;
   },
 )
