@@ -30,12 +30,6 @@ pub of_places-mask-requires : goal.of_places-mask-requires
 of_places-mask-requires c = let arrays : BookArrays c.args.book = record { starts = search rules; stands = search rules; requests = search rules; driven = search rules } in
     stands_in_table arrays (book_sound (sym c.in_ok-test.ensures))
 
-pub overflow_cast-result : goal.overflow_cast-result
-overflow_cast-result c = omega (arith, ones-le 64 c.of_places-mask.result (rw c.of_places-mask.ensures (mask_below most_places _)))
-
-pub overflow_cast-result-2 : goal.overflow_cast-result-2
-overflow_cast-result-2 c = record { fits = lt_of_le_of_lt (trailing_le 64 _) (lit< tt) }
-
 pub returns : goal.returns
 returns c = let arrays : BookArrays c.args.book = record { starts = search rules; stands = search rules; requests = search rules; driven = search rules } in
     occupancy_told _ _ _ arrays (sym c.in_ok-test.ensures) _ c.of_places-mask.ensures

@@ -12,6 +12,3 @@ loop-p-init c = fill_begun _ _ _
 
 pub loop-p-preserved : goal.loop-p-preserved
 loop-p-preserved c = fill_turned _ _ _ _ _ _ (omega arith) c.loop-p.invariant c.loop-p-test.true refl
-
-pub returns : goal.returns
-returns c = fill_ended _ _ _ _ _ c.loop-p.invariant c.loop-p-test.false ∙ rw drop-length (append-nil _)

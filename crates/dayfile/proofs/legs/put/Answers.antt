@@ -32,6 +32,3 @@ put_to-requires c = let h = legs_before _ _ c.loop-v-test.true in
 
 pub loop-v-preserved : goal.loop-v-preserved
 loop-v-preserved c = row_put _ _ _ _ _ _ c.requires.1 c.loop-v.invariant c.loop-v-test.true c.put_to.ensures
-
-pub returns : goal.returns
-returns c = splice_ended _ _ _ _ _ _ c.loop-v.invariant c.loop-v-test.false

@@ -22,6 +22,3 @@ loop-i-init c = fill_begun _ _ _
 
 pub loop-i-preserved : goal.loop-i-preserved
 loop-i-preserved c = fill_turned _ _ _ _ _ _ (omega arith) c.loop-i.invariant (omega arith) (stop_read _ _ _ _ _ c.requires (omega arith) c.read.ensures)
-
-pub returns : goal.returns
-returns c = fill_ended _ _ _ _ _ c.loop-i.invariant (omega arith) ∙ rw drop-length (append-nil _)

@@ -31,7 +31,3 @@ loop-u-preserved c = (
   entries_turned _ _ _ _ (firsts_fit (goal.at.loop-u-preserved c).After-legs-from) _ _ _ c.loop-u.invariant.0 c.loop-u-test.true refl,
   entries_turned _ _ _ _ (seconds_fit (goal.at.loop-u-preserved c).After-legs-from) _ _ _ c.loop-u.invariant.1 c.loop-u-test.true refl,
 )
-
-pub returns : goal.returns
-returns c = rw (← counted (goal.at.returns c).After-legs-from)
-    (splice_ended _ _ _ _ _ _ c.loop-u.invariant.0 c.loop-u-test.false, splice_ended _ _ _ _ _ _ c.loop-u.invariant.1 c.loop-u-test.false)

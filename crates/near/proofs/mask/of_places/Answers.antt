@@ -9,6 +9,3 @@ loop-place-init c = mask_begun _
 pub loop-place-preserved : goal.loop-place-preserved
 loop-place-preserved c =
     mask_turned _ c.loop-place.mask c.loop-place.place-index c.loop-place.invariant c.loop-place-test.true (c.requires c.loop-place.place-index c.loop-place-test.true)
-
-pub returns : goal.returns
-returns c = mask_ended _ c.loop-place.mask c.loop-place.place-index c.loop-place.invariant c.loop-place-test.false

@@ -15,6 +15,3 @@ returns-in_err-test_metres c = up _ _ _ c.from_residual.ensures.1
 
 pub loop-metres-preserved : goal.loop-metres-preserved
 loop-metres-preserved c = turns _ c.loop-metres.metres-index 3 _ c.in_ok-test_metres.ensures c.loop-metres-test.true c.loop-metres.invariant
-
-pub returns : goal.returns
-returns c = rw (ended _ _ c.loop-metres.metres-index c.loop-metres.invariant c.loop-metres-test.false)

@@ -15,6 +15,3 @@ returns-in_err-test_pair c = up _ _ _ c.from_residual.ensures.1
 
 pub loop-v-preserved : goal.loop-v-preserved
 loop-v-preserved c = turns _ c.loop-v.v 7 _ c.in_ok-test_pair.ensures c.loop-v-test.true c.loop-v.invariant
-
-pub returns : goal.returns
-returns c = rw (ended _ _ c.loop-v.v c.loop-v.invariant c.loop-v-test.false)

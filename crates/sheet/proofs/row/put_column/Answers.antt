@@ -4,9 +4,6 @@ use native.Mathlib.Omega.{arith}
 use Rattle.sheet.proofs.row.Laws.{length-aligned, part_long, column_put}
 use Rattle.sheet.proofs.row.put_column.Goals as goal
 
-pub put_aligned-requires : goal.put_aligned-requires
-put_aligned-requires c = rw (part_long c.args.at c.args.width c.args.out.now (omega (arith, c.requires.room))) (c.requires.wide, c.requires.fits)
-
 pub returns : goal.returns
 returns c = let wide = length-aligned c.args.width c.args.n c.requires.wide c.ranges.n.fits c.requires.fits in
     column_put c.args.n c.args.width c.args.end c.args.at c.args.out.now _ c.requires.room wide c.put_aligned.ensures
