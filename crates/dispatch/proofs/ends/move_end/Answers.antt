@@ -25,16 +25,17 @@ on_road : (c : Start) → c.args.place < most_places
 on_road c = le_trans c.requires.on c.requires.movable.legible.few
 
 pub insert-requires : goal.insert-requires
-insert-requires c = record {
-  crane = c.requires.movable.kept.asked.day.crane;
-  cranes = c.requires.movable.kept.asked.cranes;
-  stops = omega arith;
-  ends = λ e h. c.requires.end;
-  plan_long = omega (arith, movable_long c.requires.movable);
-  weights_long = omega (arith, few (goal.at.insert-requires c).Start, c.requires.movable.weights_long);
-  costed = c.extend.ensures.costed;
-  witnessed = rw c.stops-stops.ensures (kept_witnessed c.requires.movable.legible c.requires.movable.kept (few (goal.at.insert-requires c).Start) (movable_long c.requires.movable) c.requires.on (rw c.stops-stops.ensures at c.extend.ensures));
-}
+insert-requires c = let added = rw c.stops-stops.ensures at c.extend.ensures in
+    record {
+      crane = c.requires.movable.kept.asked.day.crane;
+      cranes = c.requires.movable.kept.asked.cranes;
+      stops = omega arith;
+      ends = λ e h. c.requires.end;
+      plan_long = omega (arith, movable_long c.requires.movable);
+      weights_long = omega (arith, few (goal.at.insert-requires c).Start, c.requires.movable.weights_long);
+      costed = c.extend.ensures.costed;
+      witnessed = rw c.stops-stops.ensures (kept_witnessed c.requires.movable.legible c.requires.movable.kept (few (goal.at.insert-requires c).Start) (movable_long c.requires.movable) c.requires.on added);
+    }
 
 pub returns : goal.returns
 returns c = record {

@@ -41,6 +41,7 @@ extend-requires g c = (omega (arith, room (goal.at.extend-requires g c).Start), 
 
 pub insert-crane-requires : goal.insert-crane-requires
 insert-crane-requires g c = let few = room (goal.at.insert-crane-requires g c).Start in
+    let added = rw c.stops-new.ensures at c.extend.ensures in
     record {
       crane = c.requires.kept.asked.day.crane;
       cranes = c.requires.kept.asked.cranes;
@@ -49,16 +50,18 @@ insert-crane-requires g c = let few = room (goal.at.insert-crane-requires g c).S
       plan_long = omega (arith, long (goal.at.insert-crane-requires g c).Start);
       weights_long = omega (arith, c.requires.kept.weights_long);
       costed = c.extend.ensures.costed;
-      witnessed = rw (← c.stops-new.ensures) at (kept_witnessed c.requires.roads.legible c.requires.kept (omega arith) (long (goal.at.insert-crane-requires g c).Start) c.requires.on (rw c.stops-new.ensures at c.extend.ensures));
+      witnessed = rw (← c.stops-new.ensures) at (kept_witnessed c.requires.roads.legible c.requires.kept (omega arith) (long (goal.at.insert-crane-requires g c).Start) c.requires.on added);
     }
 
 pub cost-requires : goal.cost-requires
 cost-requires g c = let few = room (goal.at.cost-requires g c).Start in
+    let added = rw c.stops-new.ensures at c.extend.ensures in
+    let inserted = rw c.stops-new.ensures at c.insert-crane.ensures.taken in
     record {
       few = omega arith;
       planned = search rules;
       costed = c.put.ensures.costed;
-      below = rw c.stops-new.ensures (served_below c.requires.roads.legible c.requires.kept (omega arith) (long (goal.at.cost-requires g c).Start) c.requires.on (rw c.stops-new.ensures at c.extend.ensures) (rw c.stops-new.ensures at c.insert-crane.ensures.taken));
+      below = rw c.stops-new.ensures (served_below c.requires.roads.legible c.requires.kept (omega arith) (long (goal.at.cost-requires g c).Start) c.requires.on added inserted);
     }
 
 pub returns-clause-served : goal.returns-clause-served
