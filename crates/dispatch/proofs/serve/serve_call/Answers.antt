@@ -5,8 +5,6 @@ use borrow.Author.Rules.{rules}
 use lib.ListN.{length}
 use native.Mathlib.Nat.{le_trans}
 use native.Mathlib.Omega.{arith}
-use Rattle.road.specs.Table.{most_places}
-use Rattle.dayfile.specs.Day.{most_cranes}
 use Rattle.workfunction.specs.Plan.{stops}
 use Rattle.book.specs.Book.{most_stops}
 use Rattle.dispatch.proofs.Answered.{kept_few, call_answered, unmoved_set}
@@ -22,22 +20,9 @@ room c = kept_few c.requires.kept c.requires.space
 long : {g : Over} (c : Start g) → stops c.args.instance.starts.now c.args.instance.calls.now < length c.args.matching.now.plan
 long c = le_trans (room c) c.requires.kept.plan_long
 
--- the call is at a place that has a row
-on_road : {g : Over} (c : Start g) → c.args.place < most_places
-on_road c = le_trans c.requires.on c.requires.roads.legible.few
-
 -- the crane sent is one of the cranes
 sent : {g : Over} (c : After-insert-crane g) → c.insert-crane.result < length c.args.instance.starts.now
 sent c = c.insert-crane.ensures.taken.end
-
-sent_stands : {g : Over} (c : After-insert-crane g) → c.insert-crane.result < length c.args.stands.now
-sent_stands c = omega (arith, sent c, c.requires.kept.standing.cranes)
-
-sent_low : {g : Over} (c : After-insert-crane g) → c.insert-crane.result < most_cranes
-sent_low c = le_trans (sent c) c.requires.kept.asked.cranes
-
-pub extend-requires : goal.extend-requires
-extend-requires g c = (omega (arith, room (goal.at.extend-requires g c).Start), (on_road (goal.at.extend-requires g c).Start, c.requires.kept.table.costed))
 
 pub insert-crane-requires : goal.insert-crane-requires
 insert-crane-requires g c = let few = room (goal.at.insert-crane-requires g c).Start in
