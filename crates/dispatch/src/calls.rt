@@ -6,7 +6,7 @@ use crate::instance::Instance;
 use crate::matching::Matching;
 use crate::{insert, legs};
 
-// Takes in a call at `place`, after `calls`: the end of the least net cost and way from it together follows it.
+// Takes in a call at `place`, after those of the instance: the end of the least net cost and way from it together follows it.
 fn take(instance: Instance, place: u16, matching: &mut Matching<{ legs::ROOM }>)
     requires { TakeGiven (entry (metres_of instance.table.now)) instance.starts.now instance.calls.now place matching.old.plan matching.old.weights matching.old.costs }
     ensures { CallTaken (entry (metres_of instance.entry.table.now)) instance.entry.starts.now instance.entry.calls.now place matching.old.plan matching.old.weights matching.old.costs matching.new.plan matching.new.weights matching.new.costs }

@@ -16,7 +16,7 @@ pub(crate) struct Step {
     pub least: u64,
 }
 
-// Serves a call at `place`, after `calls`, by the crane that is picked.
+// Serves a call at `place`, after those of the instance, by the crane that is picked.
 pub(crate) fn serve_call<const N: usize>(
     instance: Instance,
     place: u16,

@@ -1,10 +1,7 @@
 -- `dispatch::ends::move_end` meets its contract: the call by which the end is moved has room, is taken in for the end, and goes again.
 -- Assumes nothing.
 use Prim.Native.Nat.{◌<◌}
-use native.Mathlib.Nat.{le_trans}
 use native.Mathlib.Omega.{arith}
-use Rattle.road.specs.Table.{most_places}
-use Rattle.dayfile.specs.Day.{most_cranes}
 use Rattle.workfunction.specs.Plan.{stops}
 use Rattle.dispatch.specs.Legs.{plan_room}
 use Rattle.dispatch.proofs.Taken.{kept_witnessed}
@@ -16,25 +13,18 @@ use Rattle.dispatch.proofs.ends.move_end.Goals.{Start}
 few : (c : Start) → stops c.args.instance.starts.now c.args.instance.calls.now < plan_room
 few c = movable_few c.requires.movable
 
--- the end is one of the cranes
-end_low : (c : Start) → c.args.end < most_cranes
-end_low c = le_trans c.requires.end c.requires.movable.kept.asked.cranes
-
--- the call is at a place that has a row
-on_road : (c : Start) → c.args.place < most_places
-on_road c = le_trans c.requires.on c.requires.movable.legible.few
-
 pub insert-requires : goal.insert-requires
-insert-requires c = record {
-  crane = c.requires.movable.kept.asked.day.crane;
-  cranes = c.requires.movable.kept.asked.cranes;
-  stops = omega arith;
-  ends = λ e h. c.requires.end;
-  plan_long = omega (arith, movable_long c.requires.movable);
-  weights_long = omega (arith, few (goal.at.insert-requires c).Start, c.requires.movable.weights_long);
-  costed = c.extend.ensures.costed;
-  witnessed = rw c.stops-stops.ensures (kept_witnessed c.requires.movable.legible c.requires.movable.kept (few (goal.at.insert-requires c).Start) (movable_long c.requires.movable) c.requires.on (rw c.stops-stops.ensures at c.extend.ensures));
-}
+insert-requires c = let added = rw c.stops-stops.ensures at c.extend.ensures in
+    record {
+      crane = c.requires.movable.kept.asked.day.crane;
+      cranes = c.requires.movable.kept.asked.cranes;
+      stops = omega arith;
+      ends = λ e h. c.requires.end;
+      plan_long = omega (arith, movable_long c.requires.movable);
+      weights_long = omega (arith, few (goal.at.insert-requires c).Start, c.requires.movable.weights_long);
+      costed = c.extend.ensures.costed;
+      witnessed = rw c.stops-stops.ensures (kept_witnessed c.requires.movable.legible c.requires.movable.kept (few (goal.at.insert-requires c).Start) (movable_long c.requires.movable) c.requires.on added);
+    }
 
 pub returns : goal.returns
 returns c = record {

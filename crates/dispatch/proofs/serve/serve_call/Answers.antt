@@ -5,8 +5,6 @@ use borrow.Author.Rules.{rules}
 use lib.ListN.{length}
 use native.Mathlib.Nat.{le_trans}
 use native.Mathlib.Omega.{arith}
-use Rattle.road.specs.Table.{most_places}
-use Rattle.dayfile.specs.Day.{most_cranes}
 use Rattle.workfunction.specs.Plan.{stops}
 use Rattle.book.specs.Book.{most_stops}
 use Rattle.dispatch.proofs.Answered.{kept_few, call_answered, unmoved_set}
@@ -22,25 +20,13 @@ room c = kept_few c.requires.kept c.requires.space
 long : {g : Over} (c : Start g) → stops c.args.instance.starts.now c.args.instance.calls.now < length c.args.matching.now.plan
 long c = le_trans (room c) c.requires.kept.plan_long
 
--- the call is at a place that has a row
-on_road : {g : Over} (c : Start g) → c.args.place < most_places
-on_road c = le_trans c.requires.on c.requires.roads.legible.few
-
 -- the crane sent is one of the cranes
 sent : {g : Over} (c : After-insert-crane g) → c.insert-crane.result < length c.args.instance.starts.now
 sent c = c.insert-crane.ensures.taken.end
 
-sent_stands : {g : Over} (c : After-insert-crane g) → c.insert-crane.result < length c.args.stands.now
-sent_stands c = omega (arith, sent c, c.requires.kept.standing.cranes)
-
-sent_low : {g : Over} (c : After-insert-crane g) → c.insert-crane.result < most_cranes
-sent_low c = le_trans (sent c) c.requires.kept.asked.cranes
-
-pub extend-requires : goal.extend-requires
-extend-requires g c = (omega (arith, room (goal.at.extend-requires g c).Start), (on_road (goal.at.extend-requires g c).Start, c.requires.kept.table.costed))
-
 pub insert-crane-requires : goal.insert-crane-requires
 insert-crane-requires g c = let few = room (goal.at.insert-crane-requires g c).Start in
+    let added = rw c.stops-new.ensures at c.extend.ensures in
     record {
       crane = c.requires.kept.asked.day.crane;
       cranes = c.requires.kept.asked.cranes;
@@ -49,16 +35,18 @@ insert-crane-requires g c = let few = room (goal.at.insert-crane-requires g c).S
       plan_long = omega (arith, long (goal.at.insert-crane-requires g c).Start);
       weights_long = omega (arith, c.requires.kept.weights_long);
       costed = c.extend.ensures.costed;
-      witnessed = rw (← c.stops-new.ensures) at (kept_witnessed c.requires.roads.legible c.requires.kept (omega arith) (long (goal.at.insert-crane-requires g c).Start) c.requires.on (rw c.stops-new.ensures at c.extend.ensures));
+      witnessed = rw (← c.stops-new.ensures) at (kept_witnessed c.requires.roads.legible c.requires.kept (omega arith) (long (goal.at.insert-crane-requires g c).Start) c.requires.on added);
     }
 
 pub cost-requires : goal.cost-requires
 cost-requires g c = let few = room (goal.at.cost-requires g c).Start in
+    let added = rw c.stops-new.ensures at c.extend.ensures in
+    let inserted = rw c.stops-new.ensures at c.insert-crane.ensures.taken in
     record {
       few = omega arith;
       planned = search rules;
       costed = c.put.ensures.costed;
-      below = rw c.stops-new.ensures (served_below c.requires.roads.legible c.requires.kept (omega arith) (long (goal.at.cost-requires g c).Start) c.requires.on (rw c.stops-new.ensures at c.extend.ensures) (rw c.stops-new.ensures at c.insert-crane.ensures.taken));
+      below = rw c.stops-new.ensures (served_below c.requires.roads.legible c.requires.kept (omega arith) (long (goal.at.cost-requires g c).Start) c.requires.on added inserted);
     }
 
 pub returns-clause-served : goal.returns-clause-served
