@@ -27,12 +27,6 @@ use lib.ListN.{length}
 pub read_back : (y : ℤ) → mag y < 9223372036854775808 → to_z w64 (of_z w64 y) ≡ y
 read_back y h = to_z-of_z w64 y (record { sfits = h })
 
--- the tests of a weight, of what is read back from its bits
-module _ (y : ℤ) (f : SFits w64 y) where
-  pub weight_low : lt_z (to_z w64 (of_z w64 y)) (negsuc 1099511627775) ≡ true → weight_rule y ≡ false
-  unfolding weight_rule
-  weight_low h = let g = rw (to_z-of_z w64 y f) at h in rw (le_not_lt y (negsuc 1099511627775), g)
-
 -- the range, by its bounds
 pub record Ranged (y : ℤ) : Type 0 where
   pub high : plus y ≤ 1099511627776

@@ -148,14 +148,6 @@ module _ (keys : List (ℕ → ℕ)) (k : ℕ) (some : 0 < k) where
 pub preferred_least : (key : ℕ → ℕ) (keys : List (ℕ → ℕ)) (k : ℕ) → 0 < k → (t : ℕ) → t < k → key (preferred (key ∷ keys) k) ≤ key t
 preferred_least key keys k some t h = no_later_key key keys (preferred (key ∷ keys) k) t (preferred-first (key ∷ keys) k some t h)
 
--- one number more: the one preferred stays, or gives way to it
-module _ (keys : List (ℕ → ℕ)) (e : ℕ) (some : 0 < e) where
-  pub preferred_stays : NoLater keys (preferred keys e) e → preferred keys e ≡ preferred keys (e + 1)
-  preferred_stays first =
-      let below = preferred_below keys e some in
-      preferred_only keys (e + 1) (omega arith) (preferred keys e) (omega arith)
-      (one_more (NoLater keys (preferred keys e)) e first (preferred-first keys e some))
-
 -- keys that differ from others by the same amount below k, each from its own
 pub data Shifted (k : ℕ) : List (ℕ → ℕ) → List (ℕ → ℕ) → Type 0 where
   none : Shifted k [] []
