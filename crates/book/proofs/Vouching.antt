@@ -1,19 +1,19 @@
 -- What the range of a weight says, how the machine's bits stand for a weight and for the difference of two weights or legs,
 -- and that only the numbers below that of the stops decide. Assumes nothing.
 use Prim.Native.Nat.{ℕ, ◌<◌, ◌≤◌, zero-le, suc-le-suc}
-use mathlib.Core.Bool.{true, false, cond, ◌&&◌, and-eq-true_iff, and-false}
+use mathlib.Core.Bool.{true, cond, ◌&&◌, and-eq-true_iff}
 use mathlib.Core.List.{List}
 use mathlib.Core.Path.{◌≡◌, refl}
 use borrow.Author.Tests.{leb-true, le-leb}
 use lib.Dec.{leb}
 use lib.IntN.{ℤ, pos, negsuc, ◌-ℤ◌}
-use lib.Signed.{mag, le_z, lt_z}
+use lib.Signed.{mag, le_z}
 use mir.Syntax.{w32, w64}
 use mir.Val.{Fits, SFits, to_z, of_z}
 use mir.ValLaws.{to_z-of_z}
 use native.Mathlib.Omega.{arith}
 use Rattle.base.specs.Numbers.{unless}
-use Rattle.base.proofs.Signed.{plus, minus, difference_plus, difference_minus, difference_fits, fits_64, le_not_lt}
+use Rattle.base.proofs.Signed.{plus, minus, difference_plus, difference_minus, difference_fits, fits_64}
 use Rattle.base.proofs.Numbers.{holds}
 use Rattle.base.proofs.Tests.{below_same, below_at}
 use Rattle.workfunction.specs.Plan.{may_follow, plan_rule, slack_rule, vouch_at, vouch_rule, plan_cost}

@@ -9,7 +9,7 @@ use lib.Seq.{take_all, take_at, drop-cons, take-suc, drop-drop, get_or-drop}
 use native.Mathlib.Nat.{add-zero, le_antisymm}
 use native.Mathlib.Numerals.{add-one}
 use native.Mathlib.Omega.{arith}
-use Rattle.std.specs.Prelude.{Option, None}
+use Rattle.std.specs.Prelude.{None}
 use Rattle.base.proofs.Lists.{length-padded, take_kept, drop-replicate, Filled, fill_begun, fill_turned, fill_ended}
 use Rattle.road.specs.Table.{Table, most_places, metres_of, entry}
 use Rattle.road.proofs.Surveyed.{surveyed_metric}

@@ -9,6 +9,7 @@ use crate::matching::Matching;
 use crate::{ends, legs, plan, weights};
 
 // At first each stand is followed by itself. The table of leg costs is filled anew.
+// Its first list is that of the stands and it has no call, so that no caller has an instance to lend.
 pub(crate) fn home(
     table: &[u32],
     stands: &[u16],

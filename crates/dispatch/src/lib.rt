@@ -75,7 +75,7 @@ pub struct ServedDay {
     pub floor: u64,
 }
 
-// The functions that answer. What they keep is the book, and no struct here.
+// The functions that answer. Nothing is kept between two calls but the book.
 #[derive(Clone, Copy)]
 pub struct Dispatch {}
 

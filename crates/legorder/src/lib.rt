@@ -17,7 +17,7 @@ pub struct Pair {
     pub second: u16,
 }
 
-// The pairs of all legs by their index, in two columns.
+// The pairs of all legs by their index, in two columns, which `columns_of` and the text that `pairtable` prints have so.
 #[derive(Clone, Copy)]
 pub struct Columns {
     pub firsts: [u16; Road::LEGS],

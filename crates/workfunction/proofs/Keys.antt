@@ -10,7 +10,7 @@ use native.Mathlib.Decide.{dec_lt}
 use native.Mathlib.Nat.{zero-add, le_antisymm, le_refl, le_trans, le_of_lt, le_of_eq}
 use native.Mathlib.Omega.{arith}
 use Rattle.base.specs.Lists.{up_to}
-use Rattle.base.proofs.Tests.{by_order, one_more}
+use Rattle.base.proofs.Tests.{by_order}
 use Rattle.workfunction.specs.Lists.{filter, least_by}
 use Rattle.workfunction.specs.Choice.{narrowed, preferred}
 use Rattle.workfunction.proofs.Lists.{in_least_by, least_by_in, least_by_some, up_to_in, in_up_to}

@@ -1,12 +1,11 @@
 -- The laws of a record's 12 bytes, read and written, and of the bytes of several records.
 -- Assumes nothing.
-use Prim.Native.Nat.{ℕ, suc, ◌+◌, ◌*◌, ◌/◌, ◌%◌, ◌<◌, ◌≤◌}
-use mathlib.Core.List.{List, [], ◌∷◌, ◌++◌, flat_map, append_assoc}
+use Prim.Native.Nat.{ℕ, ◌+◌, ◌*◌, ◌/◌, ◌%◌, ◌<◌, ◌≤◌}
+use mathlib.Core.List.{List, [], ◌∷◌, ◌++◌, flat_map}
 use mathlib.Core.Path.{◌≡◌, refl, ap, ◌∙◌}
-use lib.ListN.{length, get_or, set, take, drop, length-append}
-use lib.Seq.{get_or-drop, sets, sets-eq}
-use native.Mathlib.Nat.{add-zero, add-suc, add_assoc}
-use native.Mathlib.Numerals.{add-one}
+use lib.ListN.{length, get_or, drop, length-append}
+use lib.Seq.{get_or-drop}
+use native.Mathlib.Nat.{add-zero}
 use native.Mathlib.Omega.{arith}
 use Rattle.base.specs.Lists.{up_to, splice}
 use Rattle.base.proofs.Blocks.{each_all, flat_map-append, flat_map-one, length-flat_map}

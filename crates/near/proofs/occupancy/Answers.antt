@@ -1,18 +1,12 @@
 -- `near::occupancy` meets its contract: a refusal of the book is handed up with zeros, else the answers are those of the mask of its
 -- stands. Assumes nothing.
-use mathlib.Core.Path.{◌≡◌, sym}
+use mathlib.Core.Path.{sym}
 use borrow.Author.Rules.{rules}
-use lib.Count.{ones-le, trailing_le}
-use lib.Dec.{lit<}
-use native.Mathlib.Nat.{lt_of_le_of_lt}
-use native.Mathlib.Omega.{arith}
 use Rattle.base.proofs.Numbers.{exits, refused_number}
-use Rattle.road.specs.Table.{most_places}
 use Rattle.book.specs.Book.{BookArrays}
 use Rattle.book.proofs.Sound.{book_sound}
 use Rattle.near.proofs.Standing.{enough_stands, as_many_stands, stands_in_table}
 use Rattle.near.proofs.HeldPlaces.{occupancy_refused, occupancy_told}
-use Rattle.near.proofs.mask.Laws.{mask_below}
 use Rattle.near.proofs.occupancy.Goals as goal
 
 pub returns-in_err-test : goal.returns-in_err-test

@@ -7,12 +7,11 @@ use mathlib.Core.Path.{◌≡◌, refl, sym, ◌∙◌}
 use borrow.Author.Tests.{eq-eqb, ne_eqb, lt-ltb}
 use native.Mathlib.Decide.{dec_lt}
 use lib.ListN.{length, take, drop, length-append}
-use lib.Seq.{take_at, drop-drop}
+use lib.Seq.{take_at}
 use native.Mathlib.Nat.{not-suc-le-zero, zero-lt-suc, le_of_suc-le-suc, mod-lt, mod-eq_of_lt, div-eq_of_lt}
 use native.Mathlib.Numerals.{add-one}
 use native.Mathlib.Omega.{arith}
 use Rattle.base.specs.Decimal.{up_to_digits, decimal}
-use Rattle.base.specs.Lists.{splice}
 use Rattle.base.proofs.Decimal.{digits_more, fewer_digits, length-decimal}
 use Rattle.base.proofs.Lists.{splice-none, splice_on}
 use Rattle.std.specs.Fmt.{digits_onto, digits, decimal as written}

@@ -1,10 +1,8 @@
 -- `book::fresh::number` meets its contract: the loop fills the plan from the front.
 -- Assumes nothing.
-use mathlib.Core.List.{append-nil}
-use mathlib.Core.Path.{refl, ◌∙◌}
-use lib.Seq.{drop-length}
+use mathlib.Core.Path.{refl}
 use native.Mathlib.Omega.{arith}
-use Rattle.base.proofs.Lists.{fill_begun, fill_turned, fill_ended}
+use Rattle.base.proofs.Lists.{fill_begun, fill_turned}
 use Rattle.book.proofs.fresh.number.Goals as goal
 
 pub loop-p-init : goal.loop-p-init

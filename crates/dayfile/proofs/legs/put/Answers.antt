@@ -7,7 +7,6 @@ use lib.ListN.{length}
 use native.Mathlib.Nat.{zero-add}
 use native.Mathlib.Omega.{arith}
 use Rattle.base.specs.Lists.{up_to, splice}
-use Rattle.base.proofs.Lists.{splice_ended}
 use Rattle.road.specs.Table.{leg_count, in_order}
 use Rattle.road.proofs.Order.{legs_before, leg_count_more, in_order_more, length-in_order}
 use Rattle.dayfile.specs.Codec.{encode_all}

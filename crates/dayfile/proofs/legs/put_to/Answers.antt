@@ -1,10 +1,8 @@
 -- `dayfile::legs::put_to` meets its contract: the loop writes the legs' records one behind another.
 -- Assumes nothing.
 use mathlib.Core.Path.{◌≡◌, ap, ◌∙◌}
-use borrow.Author.Rules.{rules}
 use native.Mathlib.Nat.{le_of_lt}
 use native.Mathlib.Omega.{arith}
-use Rattle.base.proofs.Lists.{splice_ended}
 use Rattle.road.specs.Table.{leg_count}
 use Rattle.road.proofs.Order.{legs_counted}
 use Rattle.road.proofs.Table.{entry_in}

@@ -1,13 +1,12 @@
 -- `dayfile::write::put` meets its contract: the legs are written first, the cranes behind them, the calls behind those.
 -- Assumes nothing.
-use mathlib.Core.Path.{◌≡◌, sym, ◌∙◌}
+use mathlib.Core.Path.{◌≡◌, ◌∙◌}
 use borrow.Author.Rules.{rules}
 use lib.ListN.{length}
-use native.Mathlib.Omega.{arith}
 use Rattle.road.specs.Table.{leg_count}
 use Rattle.road.proofs.Order.{legs_counted}
 use Rattle.dayfile.specs.Day.{day_starts, day_requests, DayArrays}
-use Rattle.dayfile.proofs.Limits.{enough_starts, enough_requests, length-starts, length_requests}
+use Rattle.dayfile.proofs.Limits.{length-starts, length_requests}
 use Rattle.dayfile.proofs.Outputs.{all_put}
 use Rattle.dayfile.proofs.write.put.Goals as goal
 use Rattle.dayfile.proofs.write.put.Goals.{After-legs-legs, After-shared_slice_known-1}

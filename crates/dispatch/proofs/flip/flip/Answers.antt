@@ -1,12 +1,9 @@
 -- `dispatch::flip::flip` meets its contract: the loop walks along the parents and swaps, to ever lower ranks, until it comes to
 -- the new call, which alone has the rank 0. Assumes nothing.
 use Prim.Native.Nat.{◌<◌}
-use borrow.Author.Rules.{rules}
-use lib.ListN.{length}
-use native.Mathlib.Omega.{arith}
 use Rattle.workfunction.specs.NetCost.{Chains}
 use Rattle.dispatch.specs.Search.{at}
-use Rattle.dispatch.proofs.flip.flip.Invariants.{walk_begun, walk_on, walk_turned, walk_ended}
+use Rattle.dispatch.proofs.flip.flip.Invariants.{walk_on, walk_turned}
 use Rattle.dispatch.proofs.flip.flip.Goals as goal
 use Rattle.dispatch.proofs.flip.flip.Goals.{In-loop-here}
 

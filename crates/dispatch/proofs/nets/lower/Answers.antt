@@ -6,7 +6,7 @@ use mir.Syntax.{w64}
 use mir.Val.{to_z, of_z}
 use mir.ValLaws.{to_z-of_z}
 use native.Mathlib.Omega.{arith}
-use Rattle.base.proofs.Lists.{fill_begun, fill_turned, fill_ended}
+use Rattle.base.proofs.Lists.{fill_begun, fill_turned}
 use Rattle.base.proofs.Signed.{difference_fits}
 use Rattle.road.specs.Table.{most_metres}
 use Rattle.dispatch.specs.Search.{at, net_base}

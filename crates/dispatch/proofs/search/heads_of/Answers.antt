@@ -1,9 +1,7 @@
 -- `dispatch::search::heads_of` meets its contract: the loop fills the heads from the front. Assumes nothing.
-use Prim.Native.Nat.{◌<◌}
 use mathlib.Core.Path.{◌∙◌}
 use native.Mathlib.Omega.{arith}
 use Rattle.base.proofs.Lists.{fill_begun, fill_turned, filled_at}
-use Rattle.book.specs.Book.{follower}
 use Rattle.book.proofs.Vouching.{read_back}
 use Rattle.dispatch.proofs.search.heads_of.Goals as goal
 use Rattle.dispatch.proofs.search.heads_of.Goals.{In-loop-p}

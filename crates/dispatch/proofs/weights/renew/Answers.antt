@@ -13,7 +13,7 @@ use Rattle.road.specs.Table.{most_metres}
 use Rattle.book.specs.Book.{follower}
 use Rattle.dispatch.specs.Legs.{leg_at}
 use Rattle.dispatch.specs.Search.{at, net_base, net_of, Totalled}
-use Rattle.dispatch.proofs.weights.renew.Invariants.{Renewing, renew_begun, renew_turned, renew_ended}
+use Rattle.dispatch.proofs.weights.renew.Invariants.{Renewing, renew_turned, renew_ended}
 use Rattle.dispatch.proofs.weights.renew.Goals as goal
 use Rattle.dispatch.proofs.weights.renew.Goals.{After-net_cost-net, In-loop-p}
 

@@ -4,7 +4,7 @@ use Prim.Native.Nat.{◌+◌, ◌≤◌}
 use mathlib.Core.Path.{◌≡◌, refl, ◌∙◌}
 use lib.ListN.{length}
 use native.Mathlib.Nat.{le_of_lt}
-use Rattle.base.proofs.Lists.{splice_ended, entries_begun, entries_turned}
+use Rattle.base.proofs.Lists.{entries_begun, entries_turned}
 use Rattle.road.specs.Table.{leg_count}
 use Rattle.road.proofs.Order.{legs_counted}
 use Rattle.legorder.proofs.fill.legs_to.Goals as goal

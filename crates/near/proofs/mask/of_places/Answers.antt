@@ -1,6 +1,6 @@
 -- `near::mask::of_places` meets its contract: each turn sets the bit of one more place.
 -- Assumes nothing.
-use Rattle.near.proofs.mask.Laws.{mask_begun, mask_turned, mask_ended}
+use Rattle.near.proofs.mask.Laws.{mask_begun, mask_turned}
 use Rattle.near.proofs.mask.of_places.Goals as goal
 
 pub loop-place-init : goal.loop-place-init

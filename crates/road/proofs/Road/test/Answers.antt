@@ -1,9 +1,7 @@
 -- `road::Road::test` meets its contract: 3 and 4 are handed up, and where neither applies 8 decides.
 -- Assumes nothing.
-use mathlib.Core.Path.{sym, ◌∙◌}
-use lib.ListN.{length}
-use Rattle.base.proofs.Numbers.{up, then_zero, then_assoc, goes_on, handed_up}
-use Rattle.road.specs.Table.{run_refusal, legs_refusal, triangle_refusal}
+use mathlib.Core.Path.{sym}
+use Rattle.base.proofs.Numbers.{then_zero}
 use Rattle.road.proofs.Table.{run_held}
 use Rattle.road.proofs.Road.test.Goals as goal
 

@@ -2,7 +2,7 @@
 -- Assumes nothing.
 use lib.ListN.{length}
 use Rattle.base.proofs.Numbers.{up, turns, stops_below}
-use Rattle.base.proofs.Tests.{begun, ended}
+use Rattle.base.proofs.Tests.{begun}
 use Rattle.road.proofs.legs.test.Invariants.{rule}
 use Rattle.road.proofs.legs.test.Goals as goal
 

@@ -1,10 +1,7 @@
 -- `road::triangles::rows_keep` meets its contract: the loop keeps whether the places below u all keep the rule.
 -- Assumes nothing.
-use Prim.Native.Nat.{ℕ, ◌≤◌, zero-le}
-use mathlib.Core.Bool.{Bool, ◌&&◌}
-use mathlib.Core.Path.{◌≡◌, refl, sym, ap₂, subst}
-use borrow.Author.Rules.{rules}
-use native.Mathlib.Nat.{le_antisymm}
+use mathlib.Core.Bool.{◌&&◌}
+use mathlib.Core.Path.{refl, sym, ap₂}
 use native.Mathlib.Numerals.{add-one}
 use Rattle.base.specs.Tests.{all_below}
 use Rattle.road.proofs.triangles.rows_keep.Goals as goal

@@ -1,7 +1,7 @@
 -- `road::triangles::test_place` meets its contract: the loop passes the places v that keep the rule with w and each place before v.
 -- Assumes nothing.
 use Rattle.base.proofs.Numbers.{up, turns, stops_below}
-use Rattle.base.proofs.Tests.{begun, ended}
+use Rattle.base.proofs.Tests.{begun}
 use Rattle.road.specs.Table.{metres_of}
 use Rattle.road.specs.Triangles.{pair_rule}
 use Rattle.road.proofs.triangles.test_place.Goals as goal

@@ -1,7 +1,6 @@
 -- `sheet::row::put_column` meets its contract: a number aligned in a part of the buffer, and the byte behind it.
 -- Assumes nothing.
-use native.Mathlib.Omega.{arith}
-use Rattle.sheet.proofs.row.Laws.{length-aligned, part_long, column_put}
+use Rattle.sheet.proofs.row.Laws.{length-aligned, column_put}
 use Rattle.sheet.proofs.row.put_column.Goals as goal
 
 pub returns : goal.returns

@@ -1,9 +1,5 @@
 -- `sheet::rows::put` meets its contract: the rows are written one behind another.
 -- Assumes nothing.
-use mathlib.Core.Path.{sym, subst}
-use native.Mathlib.Omega.{arith}
-use Rattle.base.proofs.Lists.{splice_ended}
-use Rattle.sheet.specs.Row.{Fits}
 use Rattle.sheet.proofs.rows.Laws.{rows_begun, rows_turned, numbered}
 use Rattle.sheet.proofs.rows.put.Goals as goal
 

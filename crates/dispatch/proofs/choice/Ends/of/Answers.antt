@@ -1,11 +1,9 @@
 -- `dispatch::choice::Ends::of` meets its contract: the loop has entered the stops below p, each at its follower where that is an end.
 -- No end is entered twice, since it follows one stop, and every end is, since it follows a stop. Assumes nothing.
 use lib.ListN.{length-replicate}
-use native.Mathlib.Nat.{le_of_lt}
-use native.Mathlib.Omega.{arith}
 use Rattle.workfunction.proofs.Plan.{Plan, plan_facts}
 use Rattle.book.specs.Book.{follower}
-use Rattle.dispatch.proofs.choice.Ends.of.Invariants.{free_begun, free_kept, free_taken, free_ended}
+use Rattle.dispatch.proofs.choice.Ends.of.Invariants.{free_kept, free_taken, free_ended}
 use Rattle.dispatch.proofs.choice.Ends.of.Goals as goal
 use Rattle.dispatch.proofs.choice.Ends.of.Goals.{Start, else-b-cranes, then-b-cranes}
 
