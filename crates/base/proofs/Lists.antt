@@ -225,3 +225,10 @@ module _ (f : ℕ → ℕ) (at : ℕ) (old : List ℕ) (n : ℕ) (fits : at + n 
   entries_turned now i a p lt e =
       splice_turned (λ i. up_to i f) at old n now _ (f i ∷ []) i (up_to_more i f) (rw length-up_to (omega arith)) p lt
       (rw (length-up_to i f, ← e) (splice-one (at + i) a now (omega (arith, p.long))))
+
+-- a list copied into the part of another from index at that is as long
+pub copied : (part old new : List ℕ) (at : ℕ) → new ≡ part → take at old ++ (new ++ drop (at + length part - at) (drop at old)) ≡ splice at part old
+unfolding splice
+copied part old new at e =
+    let long : at + length part - at ≡ length part = omega arith in
+    rw (e, long, drop-drop (length part) at old)

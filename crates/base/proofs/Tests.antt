@@ -4,7 +4,7 @@ use Prim.Native.Nat.{ℕ, zero, suc, ◌+◌, ◌<◌, ◌≤◌, zero-le, suc-l
 use mathlib.Core.Bool.{Bool, true, false, ◌&&◌, ◌||◌, and-eq-true_iff, and-false, or-false, false≢true}
 use mathlib.Core.Logic.{◌⊎◌, inl, inr, ⊎_elim}
 use mathlib.Core.Path.{◌≡◌, refl, sym, subst, ap₂, ◌∙◌}
-use borrow.Author.Tests.{le-leb, lt-leb, leb-true, lt-ltb, le-ltb, eq-eqb, ne_eqb}
+use borrow.Author.Tests.{le-leb, leb-true, lt-ltb, le-ltb, eq-eqb, ne_eqb}
 use lib.Dec.{leb, ltb, eqb}
 use native.Mathlib.Decide.{ℕ_discrete, dec_lt}
 use native.Mathlib.Nat.{not-suc-le-zero, eq-or-lt_of_le, le_of_suc-le-suc, le_antisymm, le_of_lt, le_refl}
@@ -53,14 +53,6 @@ module _ (lo hi n : ℕ) where
   pub within_yes : lo ≤ n → n ≤ hi → within lo hi n ≡ true
   unfolding within
   within_yes p q = rw (le-leb lo n p, le-leb n hi q)
-
-  pub within_below : n < lo → within lo hi n ≡ false
-  unfolding within
-  within_below p = rw (lt-leb lo n p)
-
-  pub within_above : hi < n → within lo hi n ≡ false
-  unfolding within
-  within_above p = rw (lt-leb n hi p) (and-false (leb lo n))
 
   pub within_least : within lo hi n ≡ true → lo ≤ n
   unfolding within

@@ -1,19 +1,19 @@
 -- What the range of a weight says, how the machine's bits stand for a weight and for the difference of two weights or legs,
 -- and that only the numbers below that of the stops decide. Assumes nothing.
 use Prim.Native.Nat.{ℕ, ◌<◌, ◌≤◌, zero-le, suc-le-suc}
-use mathlib.Core.Bool.{true, false, cond, ◌&&◌, and-eq-true_iff, and-false}
+use mathlib.Core.Bool.{true, cond, ◌&&◌, and-eq-true_iff}
 use mathlib.Core.List.{List}
 use mathlib.Core.Path.{◌≡◌, refl}
 use borrow.Author.Tests.{leb-true, le-leb}
 use lib.Dec.{leb}
 use lib.IntN.{ℤ, pos, negsuc, ◌-ℤ◌}
-use lib.Signed.{mag, le_z, lt_z}
+use lib.Signed.{mag, le_z}
 use mir.Syntax.{w32, w64}
 use mir.Val.{Fits, SFits, to_z, of_z}
 use mir.ValLaws.{to_z-of_z}
 use native.Mathlib.Omega.{arith}
 use Rattle.base.specs.Numbers.{unless}
-use Rattle.base.proofs.Signed.{plus, minus, difference_plus, difference_minus, difference_fits, fits_64, le_not_lt}
+use Rattle.base.proofs.Signed.{plus, minus, difference_plus, difference_minus, difference_fits, fits_64}
 use Rattle.base.proofs.Numbers.{holds}
 use Rattle.base.proofs.Tests.{below_same, below_at}
 use Rattle.workfunction.specs.Plan.{may_follow, plan_rule, slack_rule, vouch_at, vouch_rule, plan_cost}
@@ -26,24 +26,6 @@ use lib.ListN.{length}
 -- a weight read from the list
 pub read_back : (y : ℤ) → mag y < 9223372036854775808 → to_z w64 (of_z w64 y) ≡ y
 read_back y h = to_z-of_z w64 y (record { sfits = h })
-
--- the tests of a weight, of what is read back from its bits
-module _ (y : ℤ) (f : SFits w64 y) where
-  pub weight_low : lt_z (to_z w64 (of_z w64 y)) (negsuc 1099511627775) ≡ true → weight_rule y ≡ false
-  unfolding weight_rule
-  weight_low h = let g = rw (to_z-of_z w64 y f) at h in rw (le_not_lt y (negsuc 1099511627775), g)
-
-  pub weight_high : lt_z (pos 1099511627776) (to_z w64 (of_z w64 y)) ≡ true → weight_rule y ≡ false
-  unfolding weight_rule
-  weight_high h = let g = rw (to_z-of_z w64 y f) at h in rw (le_not_lt (pos 1099511627776) y, g) (and-false (le_z (negsuc 1099511627775) y))
-
-  pub weight-within : lt_z (to_z w64 (of_z w64 y)) (negsuc 1099511627775) ≡ false → lt_z (pos 1099511627776) (to_z w64 (of_z w64 y)) ≡ false
-      → weight_rule y ≡ true
-  unfolding weight_rule
-  weight-within h l =
-      let g = rw (to_z-of_z w64 y f) at h in
-      let k = rw (to_z-of_z w64 y f) at l in
-      rw (le_not_lt y (negsuc 1099511627775), le_not_lt (pos 1099511627776) y, g, k)
 
 -- the range, by its bounds
 pub record Ranged (y : ℤ) : Type 0 where

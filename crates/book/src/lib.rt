@@ -19,6 +19,8 @@ use road::Road;
 
 // A book in memory, beside its road table. Entries past the counts are ignored where a book is given, and 0 in a book
 // that is returned. Stops and followers have the same numbers: the cranes' starts or stands first, then the calls.
+// The counts stand beside arrays of a fixed size, since memory is fixed, and `book_refusal` and `tidied` say what holds past them. No
+// equality is derived: two books are the same by the entries within their counts.
 #[derive(Clone, Copy)]
 pub struct Book {
     pub cranes: usize,

@@ -14,7 +14,8 @@ pub(crate) const ZEROS: Book = Book {
     driven: [0; Book::CRANES],
 };
 
-// Whether two books are the same in every entry, those past their counts too.
+// Whether two books are the same in every entry, those past their counts too. `Book` derives no equality: two books are the same by the
+// entries within their counts.
 pub(crate) fn same(a: Book, b: Book) -> bool {
     (a.cranes == b.cranes)
         & (a.calls == b.calls)

@@ -41,14 +41,9 @@ fn all() -> [Pair; Road::LEGS] {
     legs
 }
 
-// Whether two legs are the same.
-fn same(a: Pair, b: Pair) -> bool {
-    (a.first == b.first) & (a.second == b.second)
-}
-
 // Whether the leg is found by its index.
 fn found(index: usize, leg: Pair) -> bool {
-    pairs::pair_at(index).is_ok_and(|pair| same(pair, leg))
+    pairs::pair_at(index).is_ok_and(|pair| pair == leg)
 }
 
 // Whether the index is found by the leg.
@@ -77,7 +72,7 @@ fn listed(rt: &impl Print, legs: &[Pair], columns: Columns) -> io::Result<()> {
     let many = legs
         .iter()
         .zip(places)
-        .filter(|&(&leg, (&first, &second))| same(leg, Pair { first, second }))
+        .filter(|&(&leg, (&first, &second))| leg == Pair { first, second })
         .count();
     print!(rt; " {many}")
 }

@@ -41,11 +41,6 @@ fn tested(date: Date) -> u8 {
     base::number(season::test(1, &[], &[], NEW_YEAR, date))
 }
 
-// Whether a date is later than another.
-fn later(a: Date, b: Date) -> bool {
-    (b.year, b.month, b.day) < (a.year, a.month, a.day)
-}
-
 // The number that a date should have.
 fn expected(date: Date) -> u8 {
     if (1_583..=9_999).contains(&date.year) {
@@ -67,7 +62,7 @@ fn right() -> usize {
 fn ascending() -> usize {
     (FIRST..END)
         .zip(BEFORE..END)
-        .filter(|&(at, before)| later(date(at), date(before)))
+        .filter(|&(at, before)| date(before) < date(at))
         .count()
 }
 

@@ -11,7 +11,7 @@ use Rattle.dayfile.specs.declared.scan.State.{State}
 use Rattle.dayfile.specs.Codec.{records}
 use Rattle.dayfile.specs.File.{day_of, ways, tested, refusal, answer_of, read_file}
 use Rattle.dayfile.specs.Legs.{table_of}
-use Rattle.dayfile.specs.Scan.{Scan, refused, counted, refuse_at, start, length_refusal, scan}
+use Rattle.dayfile.specs.Scan.{Scan, refused, counted, start, length_refusal, scan}
 use Rattle.dayfile.proofs.Grammar.{Run, not_refused, run_of, run_counted, run_progress}
 use Rattle.dayfile.proofs.legs.Laws.{read_run}
 use Rattle.dayfile.proofs.codec.Laws.{length-records}

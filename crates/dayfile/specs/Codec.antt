@@ -1,7 +1,7 @@
 -- The bytes of a record: "Records of 12 bytes, no header, little-endian."
 use Rattle.std.specs.Prelude.{ℕ, zero, suc, ◌+◌, ◌*◌, ◌/◌, ◌%◌, get_or}
 use mathlib.Core.List.{List, [], ◌∷◌, ◌++◌, flat_map}
-use Rattle.std.specs.Prelude.{◌≡◌, Bool, false, Result, Ok, Err}
+use Rattle.std.specs.Prelude.{◌≡◌, false, Result, Ok, Err}
 use Rattle.base.specs.Lists.{blocks}
 use Rattle.base.specs.Tests.{within}
 use Rattle.base.specs.declared.Refusal.{Refusal}

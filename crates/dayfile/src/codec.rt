@@ -1,8 +1,9 @@
 // A record's six fields, and its 12 bytes.
 ghost use Rattle.std.specs.Prelude.{◌≡◌, ◌+◌, ◌≤◌, length, drop};
 ghost use Rattle.base.specs.Lists.{splice};
-ghost use Rattle.dayfile.specs.Codec.{kind_number, HasKind, bytes_of, two, four, decode, encode};
+ghost use Rattle.dayfile.specs.Codec.{kind_number, HasKind, decode, encode};
 
+use crate::Day;
 use base::Refusal;
 
 // The kinds of records.
@@ -54,24 +55,6 @@ pub struct Record {
     pub metres: u32,
 }
 
-// The number in two bytes.
-fn read_two(bytes: &[u8], at: usize) -> u16
-    requires { at + 2 ≤ length bytes.now }
-    ensures { result ≡ two (drop at bytes.now) 0 }
-{
-    let low = bytes[at];
-    let high = bytes[at + 1];
-    low as u16 + 256 * (high as u16)
-}
-
-// The number in four bytes.
-fn read_four(bytes: &[u8], at: usize) -> u32
-    requires { at + 4 ≤ length bytes.now }
-    ensures { result ≡ four (drop at bytes.now) 0 }
-{
-    read_two(bytes, at) as u32 + 65_536 * (read_two(bytes, at + 2) as u32)
-}
-
 // The record in the 12 bytes from `at`.
 pub(crate) fn read(bytes: &[u8], at: usize) -> Record
     requires { at + 12 ≤ length bytes.now }
@@ -80,31 +63,22 @@ pub(crate) fn read(bytes: &[u8], at: usize) -> Record
     Record {
         kind: bytes[at],
         pad: bytes[at + 1],
-        first: read_two(bytes, at + 2),
-        second: read_two(bytes, at + 4),
-        gap: read_two(bytes, at + 6),
-        metres: read_four(bytes, at + 8),
+        first: u16::from_le_bytes([bytes[at + 2], bytes[at + 3]]),
+        second: u16::from_le_bytes([bytes[at + 4], bytes[at + 5]]),
+        gap: u16::from_le_bytes([bytes[at + 6], bytes[at + 7]]),
+        metres: u32::from_le_bytes([bytes[at + 8], bytes[at + 9], bytes[at + 10], bytes[at + 11]]),
     }
 }
 
-// A number's two bytes, into the buffer from `at`.
-fn put_two(x: u16, out: &mut [u8], at: usize)
-    requires { at + 2 ≤ length out.old }
-    ensures { out.new ≡ splice at (bytes_of 2 x) out.old }
+// The 12 bytes of a record.
+fn bytes_of(r: Record) -> [u8; Day::RECORD_LENGTH]
+    ensures { result ≡ encode r }
 {
-    out[at] = (x % 256) as u8;
-    out[at + 1] = (x / 256 % 256) as u8;
-}
-
-// A number's four bytes, into the buffer from `at`.
-fn put_four(x: u32, out: &mut [u8], at: usize)
-    requires { at + 4 ≤ length out.old }
-    ensures { out.new ≡ splice at (bytes_of 4 x) out.old }
-{
-    out[at] = (x % 256) as u8;
-    out[at + 1] = (x / 256 % 256) as u8;
-    out[at + 2] = (x / 256 / 256 % 256) as u8;
-    out[at + 3] = (x / 256 / 256 / 256 % 256) as u8;
+    let [f0, f1] = r.first.to_le_bytes();
+    let [s0, s1] = r.second.to_le_bytes();
+    let [g0, g1] = r.gap.to_le_bytes();
+    let [m0, m1, m2, m3] = r.metres.to_le_bytes();
+    [r.kind, r.pad, f0, f1, s0, s1, g0, g1, m0, m1, m2, m3]
 }
 
 // The record's 12 bytes, into the buffer from `at`.
@@ -112,10 +86,5 @@ pub(crate) fn put(r: Record, out: &mut [u8], at: usize)
     requires { at + 12 ≤ length out.old }
     ensures { out.new ≡ splice at (encode r) out.old }
 {
-    out[at] = r.kind;
-    out[at + 1] = r.pad;
-    put_two(r.first, out, at + 2);
-    put_two(r.second, out, at + 4);
-    put_two(r.gap, out, at + 6);
-    put_four(r.metres, out, at + 8);
+    out[at..at + Day::RECORD_LENGTH].copy_from_slice(&bytes_of(r));
 }

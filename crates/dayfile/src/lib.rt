@@ -17,6 +17,7 @@ use road::Road;
 
 // A day in memory, beside its road table. The entries of `starts` past the number of cranes and of `requests` past the
 // number of calls are ignored where a day is given, and 0 in a day that is returned.
+// The counts stand beside arrays of a fixed size, since memory is fixed, and `day_of` and `day_refusal` say what holds past them.
 #[derive(Clone, Copy)]
 pub struct Day {
     // How many places the road table has.
@@ -30,7 +31,7 @@ pub struct Day {
 }
 
 // What a file holds: the day and its table. The legs of the day's places are the front of the array, 0 past them:
-// `&table[..Road::legs(day.places)]` is the run.
+// `&table[..Road::legs(day.places)]` is the run. An array of a fixed size, since memory is fixed, and `table_of` says what is past the legs.
 #[derive(Clone, Copy)]
 pub struct Reading {
     pub day: Day,

@@ -9,7 +9,7 @@ use lib.Seq.{take_all, take_at, drop-cons, take-suc, drop-drop, get_or-drop}
 use native.Mathlib.Nat.{add-zero, le_antisymm}
 use native.Mathlib.Numerals.{add-one}
 use native.Mathlib.Omega.{arith}
-use Rattle.std.specs.Prelude.{Option, None}
+use Rattle.std.specs.Prelude.{None}
 use Rattle.base.proofs.Lists.{length-padded, take_kept, drop-replicate, Filled, fill_begun, fill_turned, fill_ended}
 use Rattle.road.specs.Table.{Table, most_places, metres_of, entry}
 use Rattle.road.proofs.Surveyed.{surveyed_metric}
@@ -116,16 +116,6 @@ module _ (n : ℕ) (d : ℕ → ℕ → ℕ) (starts requests stands₀ cranes�
           stood = rw all at run.stood;
           kept = rw all at run.kept;
         }
-
--- the number of the crane sent
-pub crane_few : {n : ℕ} {d : ℕ → ℕ → ℕ} {starts calls stands plan : List ℕ} {weights : List ℤ} {costs : List ℕ}
-    → Kept n d starts calls stands plan weights costs → {r : ℕ} {pick : Option ℕ} {told : Served} {stands' plan' : List ℕ} {weights' : List ℤ}
-    {costs' : List ℕ} → Answered n d starts calls stands r pick told stands' plan' weights' costs' → told.crane < most_cranes
-crane_few kept answer =
-    let below = answer.crane in
-    let many = kept.standing.cranes in
-    let few = kept.asked.cranes in
-    omega arith
 
 -- ---- a day that is accepted, with its fresh book
 

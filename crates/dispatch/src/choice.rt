@@ -8,7 +8,7 @@ ghost use Rattle.dispatch.specs.Insertion.{Freed, Foremost, NetsGiven, ChoiceGiv
 use crate::legs;
 use book::Book;
 
-// Of each end the net cost of freeing it, and the stop that it follows.
+// Of each end the net cost of freeing it, and the stop that it follows. A list of each, since `Freed` and `least_end` speak of lists.
 #[derive(Drop)]
 pub(crate) struct Ends {
     pub nets: [u64; Book::CRANES],
@@ -45,7 +45,7 @@ impl Ends {
     }
 
     // The end of the least sum of its net cost and the way to it from the new call; among equals of the least way; then of the
-    // lowest number.
+    // lowest number. The 0 for no end, and no Option, is that of `least_end`.
     pub(crate) fn choose(&self, cranes: usize, new: usize, costs: &[u32]) -> usize
         requires { ChoiceGiven cranes new self.now.nets costs.now }
         ensures { result ≡ least_end cranes new (at self.now.nets) (leg_at costs.now) }

@@ -3,6 +3,7 @@ ghost use Rattle.std.specs.Prelude.{◌≡◌, ℕ, Ok};
 ghost use Rattle.base.specs.Numbers.{number_of};
 ghost use Rattle.dispatch.specs.Commit.{commit_refusal, tidied, book_after, drive_of, least_after, committed, Next};
 
+use crate::instance::Instance;
 use crate::matching::Matching;
 use crate::{Commit, call, legs, serve, tidy};
 use base::Refusal;
@@ -45,10 +46,13 @@ pub(crate) fn accepted(book: Book, table: &[u32], place: u16, crane: usize) -> C
         costs,
     };
     legs::of_book(tidy, table, &mut matching.costs[..]);
-    let step = serve::serve_call(
+    let instance = Instance {
         table,
-        &starts[..tidy.cranes],
-        &requests[..calls],
+        starts: &starts[..tidy.cranes],
+        calls: &requests[..calls],
+    };
+    let step = serve::serve_call(
+        instance,
         place,
         Some(crane),
         &mut stands[..tidy.cranes],

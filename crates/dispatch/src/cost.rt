@@ -5,6 +5,7 @@ ghost use Rattle.workfunction.specs.Movement.{work, floor as Movement·floor};
 ghost use Rattle.book.specs.Book.{starts_of, stands_of, requests_of, book_refusal};
 ghost use Rattle.dispatch.specs.Costs.{two_costs};
 
+use crate::instance::Instance;
 use crate::matching::Matching;
 use crate::{Costs, floor, legs, lists, plan};
 use book::Book;
@@ -29,11 +30,11 @@ pub(crate) fn accepted(book: Book, table: &[u32]) -> Costs
     };
     legs::of_book(book, table, &mut matching.costs[..]);
     let least = plan::cost(stops, &matching.plan[..], &matching.costs[..]);
-    let floor = floor::floor(
+    let instance = Instance {
         table,
-        &starts[..book.cranes],
-        &requests[..book.calls],
-        &mut matching,
-    );
+        starts: &starts[..book.cranes],
+        calls: &requests[..book.calls],
+    };
+    let floor = floor::floor(instance, &mut matching);
     Costs { least, floor }
 }

@@ -4,6 +4,7 @@ ghost use Rattle.dayfile.specs.Day.{day_refusal};
 ghost use Rattle.book.specs.Book.{fresh_book};
 ghost use Rattle.dispatch.specs.ServedDay.{day_figures, served_day};
 
+use crate::instance::Instance;
 use crate::matching::Matching;
 use crate::{ServedDay, floor, home, legs, plan, serve, weights};
 use book::Book;
@@ -30,23 +31,21 @@ pub(crate) fn served(day: Day, fresh: Book, table: &[u32]) -> ServedDay
     let mut metres = [0; Book::CALLS];
     let mut leasts = [0; Book::CALLS];
     legs::of_book(fresh, table, &mut matching.costs[..]);
-    let driven = serve::serve_all(
+    let instance = Instance {
         table,
-        &starts[..cranes],
-        &requests[..day.calls],
+        starts: &starts[..cranes],
+        calls: &requests[..day.calls],
+    };
+    let driven = serve::serve_all(
+        instance,
         &mut stands[..cranes],
         &mut matching,
         &mut sent[..],
         &mut metres[..],
         &mut leasts[..],
     );
-    let floor = floor::floor(
-        table,
-        &starts[..cranes],
-        &requests[..day.calls],
-        &mut matching,
-    );
-    let home = home::home(table, &stands[..cranes], &starts[..cranes], &mut matching);
+    let floor = floor::floor(instance, &mut matching);
+    let home = home::home(table, &stands[..cranes], instance.starts, &mut matching);
     ServedDay {
         calls: day.calls,
         cranes: sent,

@@ -5,28 +5,24 @@ ghost use Rattle.workfunction.specs.Plan.{plan_floor};
 ghost use Rattle.dispatch.specs.Legs.{Costed};
 ghost use Rattle.dispatch.specs.Insertion.{EndsGiven, PlanGiven};
 
+use crate::instance::Instance;
 use crate::matching::Matching;
 use crate::{calls, ends, legs, plan, weights};
 
 // From a plan to any ends.
-pub(crate) fn floor(
-    table: &[u32],
-    starts: &[u16],
-    calls: &[u16],
-    matching: &mut Matching<{ legs::ROOM }>,
-) -> u64
-    requires { EndsGiven (entry (metres_of table.now)) starts.now calls.now starts.now matching.old.plan matching.old.weights matching.old.costs }
-    ensures { (result ≡ plan_floor (entry (metres_of table.now)) starts.now calls.now) × Costed matching.new.costs }
+pub(crate) fn floor(instance: Instance, matching: &mut Matching<{ legs::ROOM }>) -> u64
+    requires { EndsGiven (entry (metres_of instance.table.now)) instance.starts.now instance.calls.now instance.starts.now matching.old.plan matching.old.weights matching.old.costs }
+    ensures { (result ≡ plan_floor (entry (metres_of instance.entry.table.now)) instance.entry.starts.now instance.entry.calls.now) × Costed matching.new.costs }
 {
-    ends::least(table, starts, calls, starts, matching)
+    ends::least(instance, instance.starts, matching)
 }
 
 // From no plan: at first each start is followed by itself, then the calls are taken in.
-pub(crate) fn of_day(table: &[u32], starts: &[u16], requests: &[u16]) -> u64
-    requires { PlanGiven (entry (metres_of table.now)) starts.now requests.now }
-    ensures { result ≡ plan_floor (entry (metres_of table.now)) starts.now requests.now }
+pub(crate) fn of_day(instance: Instance) -> u64
+    requires { PlanGiven (entry (metres_of instance.table.now)) instance.starts.now instance.calls.now }
+    ensures { result ≡ plan_floor (entry (metres_of instance.entry.table.now)) instance.entry.starts.now instance.entry.calls.now }
 {
-    let plan = plan::own(starts.len());
+    let plan = plan::own(instance.starts.len());
     let weights = weights::zeros();
     let costs = legs::zeros();
     let mut matching = Matching {
@@ -34,17 +30,11 @@ pub(crate) fn of_day(table: &[u32], starts: &[u16], requests: &[u16]) -> u64
         weights,
         costs,
     };
-    legs::fill(
-        table,
-        starts,
-        &requests[..0],
-        starts,
-        &mut matching.costs[..],
-    );
-    calls::take_all(table, starts, requests, &mut matching);
-    plan::cost(
-        starts.len() + requests.len(),
-        &matching.plan[..],
-        &matching.costs[..],
-    )
+    let uncalled = Instance {
+        calls: &instance.calls[..0],
+        ..instance
+    };
+    legs::fill(uncalled, instance.starts, &mut matching.costs[..]);
+    calls::take_all(instance, &mut matching);
+    plan::cost(instance.stops(), &matching.plan[..], &matching.costs[..])
 }

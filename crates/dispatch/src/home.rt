@@ -4,10 +4,12 @@ ghost use Rattle.road.specs.Table.{metres_of, entry};
 ghost use Rattle.workfunction.specs.Plan.{stops, leg_cost, least_plan};
 ghost use Rattle.dispatch.specs.Insertion.{HomeGiven};
 
+use crate::instance::Instance;
 use crate::matching::Matching;
 use crate::{ends, legs, plan, weights};
 
 // At first each stand is followed by itself. The table of leg costs is filled anew.
+// Its first list is that of the stands and it has no call, so that no caller has an instance to lend.
 pub(crate) fn home(
     table: &[u32],
     stands: &[u16],
@@ -21,6 +23,11 @@ pub(crate) fn home(
     let weights = weights::zeros();
     matching.plan = plan;
     matching.weights = weights;
-    legs::fill(table, stands, &stands[..0], stands, &mut matching.costs[..]);
-    ends::least(table, stands, &stands[..0], starts, matching)
+    let uncalled = Instance {
+        table,
+        starts: stands,
+        calls: &stands[..0],
+    };
+    legs::fill(uncalled, stands, &mut matching.costs[..]);
+    ends::least(uncalled, starts, matching)
 }

@@ -7,6 +7,7 @@ ghost use Rattle.workfunction.specs.Plan.{stops, place};
 ghost use Rattle.book.specs.Book.{starts_of, stands_of, requests_of};
 ghost use Rattle.dispatch.specs.Legs.{plan_room, follower_row, leg_at, Costed, LegTable, RowsFilled, FollowerPut, FollowersGiven, FollowersPut, TableGiven, BookGiven, ColumnFilled, StopAdded};
 
+use crate::instance::Instance;
 use book::Book;
 use road::Road;
 
@@ -63,24 +64,24 @@ fn fill_from(table: &[u32], places: &[u16], to: usize, row: &mut [u32])
 }
 
 // The row of the place `to`: the metres to it from each stop.
-fn fill_row(table: &[u32], starts: &[u16], calls: &[u16], to: usize, row: &mut [u32])
-    requires { (length starts.now ≤ length row.old) × (length row.old ≤ stops starts.now calls.now) }
-    ensures { row.new ≡ up_to (length row.old) (λ p. entry (metres_of table.now) (place starts.now calls.now p) to) }
+fn fill_row(instance: Instance, to: usize, row: &mut [u32])
+    requires { (length instance.starts.now ≤ length row.old) × (length row.old ≤ stops instance.starts.now instance.calls.now) }
+    ensures { row.new ≡ up_to (length row.old) (λ p. entry (metres_of instance.entry.table.now) (place instance.entry.starts.now instance.entry.calls.now p) to) }
 {
-    let cranes = starts.len();
-    fill_from(table, starts, to, &mut row[..cranes]);
-    fill_from(table, calls, to, &mut row[cranes..]);
+    let cranes = instance.starts.len();
+    fill_from(instance.table, instance.starts, to, &mut row[..cranes]);
+    fill_from(instance.table, instance.calls, to, &mut row[cranes..]);
 }
 
 // The rows of all places.
-fn fill_rows(table: &[u32], starts: &[u16], calls: &[u16], costs: &mut [u32])
-    requires { (stops starts.now calls.now ≤ plan_room) × Costed costs.old }
-    ensures { RowsFilled most_places (entry (metres_of table.now)) starts.now calls.now costs.old costs.new }
+fn fill_rows(instance: Instance, costs: &mut [u32])
+    requires { (stops instance.starts.now instance.calls.now ≤ plan_room) × Costed costs.old }
+    ensures { RowsFilled most_places (entry (metres_of instance.entry.table.now)) instance.entry.starts.now instance.entry.calls.now costs.old costs.new }
 {
-    let stops = starts.len() + calls.len();
+    let stops = instance.stops();
     for x in 0..Road::PLACES {
         let at = ROOM * x;
-        fill_row(table, starts, calls, x, &mut costs[at..at + stops]);
+        fill_row(instance, x, &mut costs[at..at + stops]);
     }
 }
 
@@ -103,13 +104,13 @@ fn put_all(places: &[u16], first: usize, costs: &mut [u32])
 }
 
 // The whole table of a plan's legs.
-pub(crate) fn fill(table: &[u32], starts: &[u16], calls: &[u16], stands: &[u16], costs: &mut [u32])
-    requires { TableGiven starts.now calls.now stands.now costs.old }
-    ensures { LegTable most_places (entry (metres_of table.now)) starts.now calls.now stands.now costs.new }
+pub(crate) fn fill(instance: Instance, stands: &[u16], costs: &mut [u32])
+    requires { TableGiven instance.starts.now instance.calls.now stands.now costs.old }
+    ensures { LegTable most_places (entry (metres_of instance.entry.table.now)) instance.entry.starts.now instance.entry.calls.now stands.now costs.new }
 {
-    fill_rows(table, starts, calls, costs);
+    fill_rows(instance, costs);
     put_all(stands, 0, costs);
-    put_all(calls, starts.len(), costs);
+    put_all(instance.calls, instance.starts.len(), costs);
 }
 
 // The table of a book's legs.
@@ -120,13 +121,12 @@ pub(crate) fn of_book(book: Book, table: &[u32], costs: &mut [u32])
     let starts = book.starts;
     let requests = book.requests;
     let stands = book.stands;
-    fill(
+    let instance = Instance {
         table,
-        &starts[..book.cranes],
-        &requests[..book.calls],
-        &stands[..book.cranes],
-        costs,
-    );
+        starts: &starts[..book.cranes],
+        calls: &requests[..book.calls],
+    };
+    fill(instance, &stands[..book.cranes], costs);
 }
 
 // The column of stop p, at the place `from`: the metres from it to each place.

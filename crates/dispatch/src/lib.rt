@@ -14,6 +14,7 @@ mod flip;
 mod floor;
 mod home;
 mod insert;
+mod instance;
 mod legs;
 mod lists;
 mod matching;
@@ -33,6 +34,7 @@ ghost use Rattle.dispatch.specs.PlanFloor.{floor_told, plan_floor_of};
 ghost use Rattle.dispatch.specs.Quote.{quoted, quote_of};
 ghost use Rattle.dispatch.specs.ServedDay.{day_figures, served_day};
 
+use crate::instance::Instance;
 use base::Refusal;
 use book::Book;
 use dayfile::Day;
@@ -60,7 +62,8 @@ pub struct Costs {
 }
 
 // A day served from its fresh book: of each call the crane sent, the metres that it drives and the least cost after it; the sum
-// of the drives, the way home, and the floor. Entries past the number of calls are 0.
+// of the drives, the way home, and the floor. Entries past the number of calls are 0. An array of each figure and not one of figures,
+// since `day_figures` tells them so; of a fixed size, since memory is fixed.
 #[derive(Clone, Copy)]
 pub struct ServedDay {
     pub calls: usize,
@@ -72,7 +75,7 @@ pub struct ServedDay {
     pub floor: u64,
 }
 
-// The functions that answer. What they keep is the book, and no struct here.
+// The functions that answer. Nothing is kept between two calls but the book.
 #[derive(Clone, Copy)]
 pub struct Dispatch {}
 
@@ -140,6 +143,11 @@ impl Dispatch {
         day.test_placed(table)?;
         let starts = day.starts;
         let requests = day.requests;
-        Ok(floor::of_day(table, &starts[..day.cranes], &requests[..day.calls]))
+        let instance = Instance {
+            table,
+            starts: &starts[..day.cranes],
+            calls: &requests[..day.calls],
+        };
+        Ok(floor::of_day(instance))
     }
 }

@@ -59,7 +59,7 @@ fn limit(cranes: usize, new: usize, b: usize) -> usize
 }
 
 // What a search knows of each stop, by its number: its total, the net cost of freeing its follower and the leg to it; its parent, the
-// stop that the follower goes to; and its rank, the round in which it is settled.
+// stop that the follower goes to; and its rank, the round in which it is settled. A list of each, since `Searched` speaks of lists.
 #[derive(Drop)]
 pub(crate) struct Search {
     pub totals: [u64; legs::ROOM],

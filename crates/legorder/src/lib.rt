@@ -11,13 +11,13 @@ ghost use Rattle.legorder.specs.Pairs.{pairs, columns_of};
 use road::Road;
 
 // The two places of a leg.
-#[derive(Clone, Copy)]
+#[derive(Clone, Copy, PartialEq, Eq)]
 pub struct Pair {
     pub first: u16,
     pub second: u16,
 }
 
-// The pairs of all legs by their index, in two columns.
+// The pairs of all legs by their index, in two columns, which `columns_of` and the text that `pairtable` prints have so.
 #[derive(Clone, Copy)]
 pub struct Columns {
     pub firsts: [u16; Road::LEGS],

@@ -14,7 +14,8 @@ ghost use Rattle.near.specs.Occupancy.{held_places, occupancy_of};
 use base::Refusal;
 use book::Book;
 
-// How many cranes are within a distance, whose numbers stand at the front of the lent buffer, and the nearest of all cranes.
+// How many cranes are within a distance, whose numbers stand at the front of the lent buffer, and the nearest of all cranes. The count is
+// told beside the buffer, since it is the caller's: memory is fixed.
 #[derive(Clone, Copy)]
 pub struct Nearby {
     pub count: usize,

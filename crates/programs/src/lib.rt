@@ -2,10 +2,10 @@
 // `report` and `input`, and on std for reading and writing.
 #![tactic(auto)]
 
-ghost use Rattle.std.specs.Prelude.{◌≡◌, ℕ, List, OnOk, IsErrOf};
+ghost use Rattle.std.specs.Prelude.{◌≡◌, ℕ, List, Some, OnOk, IsErrOf};
 ghost use Rattle.base.specs.Counts.{IsPrefixLen};
 ghost use Rattle.report.specs.Report.{printed};
-ghost use Rattle.programs.specs.Served.{Served};
+ghost use Rattle.programs.specs.Served.{Served, failure_text};
 
 use dayfile::Day;
 use report::Printed;
@@ -34,6 +34,8 @@ pub enum Failure {
 }
 
 impl fmt::Display for Failure {
+    ghost output = { λ failure. Some (failure_text failure) };
+
     fn fmt<W: fmt::Write>(&self, f: &mut fmt::Formatter<W>) -> fmt::Result {
         match self {
             Failure::Read => write!(f, "read failed"),

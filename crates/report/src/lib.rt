@@ -12,7 +12,8 @@ ghost use Rattle.report.specs.Report.{print_of, sheet_print_of, printed};
 // The bytes that the text of a print has room for; the longest print fits.
 pub const TEXT: usize = 32_768;
 
-// A print: its text stands in the first `length` bytes, and the bytes past them are 0.
+// A print: its text stands in the first `length` bytes, and the bytes past them are 0. An array with a length beside it, since memory is
+// fixed, and `printed` says what stands past the text.
 #[derive(Clone, Copy)]
 pub struct Printed {
     pub length: usize,

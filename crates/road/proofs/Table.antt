@@ -9,7 +9,6 @@ use lib.ListN.{length, get_or, get_or-eq_default}
 use native.Mathlib.Decide.{dec_lt}
 use native.Mathlib.Nat.{le_of_lt, le_of_eq}
 use native.Mathlib.Omega.{arith}
-use Rattle.base.specs.Numbers.{number_of}
 use Rattle.base.proofs.Numbers.{holds, first_of, unless-zero}
 use Rattle.base.proofs.Tests.{by_order, within_yes, within_most, below_at}
 use Rattle.road.specs.Table.{Table, most_places, most_metres, leg_count, leg_index, metres_of, entry, places_rule, places_refusal, run_refusal, metres_rule, legs_rule}

@@ -12,7 +12,8 @@ ghost use Rattle.road.specs.Table.{legs_of, metres_of, entry, places_refusal, ru
 use base::Refusal;
 
 // The road table's limits and functions. A table is a lent run of numbers beside its number of places: the metres of the legs (0,1),
-// (0,2), (1,2), (0,3) and so on, by second place, then by first. No struct here holds it.
+// (0,2), (1,2), (0,3) and so on, by second place, then by first. No struct here holds it: the
+// number of places is a field of the day or is asked, and the run is lent, so that a struct of both would be put together at each call.
 #[derive(Clone, Copy)]
 pub struct Road {}
 

@@ -14,7 +14,7 @@ fn is_leap(year: u16) -> bool
     year % 4 == 0 && (year % 100 != 0 || year % 400 == 0)
 }
 
-// The days of a month, in a leap year or not; 0 for a number that is no month.
+// The days of a month, in a leap year or not; 0 for a number that is no month, and no Option, by the definition `month_days`.
 #[tactic(auto, unfolding(crate::specs::Calendar::month_days))]
 fn month_days(leap: bool, month: u8) -> u8
     ensures { result ≡ month_days leap month }

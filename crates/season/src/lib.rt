@@ -30,7 +30,7 @@ pub struct Window {
 }
 
 // A day of the Gregorian calendar.
-#[derive(Clone, Copy)]
+#[derive(Clone, Copy, PartialEq, Eq, PartialOrd, Ord)]
 pub struct Date {
     pub year: u16,
     pub month: u8,

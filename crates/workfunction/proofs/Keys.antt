@@ -10,7 +10,7 @@ use native.Mathlib.Decide.{dec_lt}
 use native.Mathlib.Nat.{zero-add, le_antisymm, le_refl, le_trans, le_of_lt, le_of_eq}
 use native.Mathlib.Omega.{arith}
 use Rattle.base.specs.Lists.{up_to}
-use Rattle.base.proofs.Tests.{by_order, one_more}
+use Rattle.base.proofs.Tests.{by_order}
 use Rattle.workfunction.specs.Lists.{filter, least_by}
 use Rattle.workfunction.specs.Choice.{narrowed, preferred}
 use Rattle.workfunction.proofs.Lists.{in_least_by, least_by_in, least_by_some, up_to_in, in_up_to}
@@ -147,20 +147,6 @@ module _ (keys : List (ℕ → ℕ)) (k : ℕ) (some : 0 < k) where
 -- the first key is least
 pub preferred_least : (key : ℕ → ℕ) (keys : List (ℕ → ℕ)) (k : ℕ) → 0 < k → (t : ℕ) → t < k → key (preferred (key ∷ keys) k) ≤ key t
 preferred_least key keys k some t h = no_later_key key keys (preferred (key ∷ keys) k) t (preferred-first (key ∷ keys) k some t h)
-
--- one number more: the one preferred stays, or gives way to it
-module _ (keys : List (ℕ → ℕ)) (e : ℕ) (some : 0 < e) where
-  pub preferred_stays : NoLater keys (preferred keys e) e → preferred keys e ≡ preferred keys (e + 1)
-  preferred_stays first =
-      let below = preferred_below keys e some in
-      preferred_only keys (e + 1) (omega arith) (preferred keys e) (omega arith)
-      (one_more (NoLater keys (preferred keys e)) e first (preferred-first keys e some))
-
-  pub preferred_gives_way : NoLater keys e (preferred keys e) → e ≡ preferred keys (e + 1)
-  preferred_gives_way first =
-      preferred_only keys (e + 1) (omega arith) e (omega arith)
-      (one_more (NoLater keys e) e (no_later_self keys e)
-      (λ t h. no_later_on keys e (preferred keys e) t first (preferred-first keys e some t h)))
 
 -- keys that differ from others by the same amount below k, each from its own
 pub data Shifted (k : ℕ) : List (ℕ → ℕ) → List (ℕ → ℕ) → Type 0 where

@@ -1,7 +1,6 @@
 pub mod Cases
 pub mod Lists
 pub mod Sums
-pub mod Counted
 pub mod Position
 pub mod Movement
 pub mod Keys

@@ -4,7 +4,7 @@ use Prim.Native.Nat.{ℕ, ◌+◌, ◌-◌, ◌<◌, ◌≤◌}
 use mathlib.Core.Bool.{Bool, true, false, cond, ◌&&◌, ◌||◌, and-eq-true_iff, or-true}
 use mathlib.Core.Logic.{◌⊎◌, inl, inr}
 use mathlib.Core.Path.{◌≡◌, refl, sym, ◌∙◌}
-use borrow.Author.Tests.{ltb-true, lt-ltb, le-ltb, eqb-true, eq-eqb, ne_eqb}
+use borrow.Author.Tests.{ltb-true, lt-ltb, eqb-true, eq-eqb, ne_eqb}
 use lib.Dec.{ltb, eqb}
 use lib.IntN.{ℤ, pos, ◌-ℤ◌}
 use native.Mathlib.Decide.{ℕ_discrete}
@@ -21,10 +21,6 @@ pub may_follow_lem : (k p b : ℕ) → (b < k) ⊎ (p < b) → may_follow k p b 
 unfolding may_follow
 may_follow_lem k p b (inl h) = rw (lt-ltb b k h)
 may_follow_lem k p b (inr h) = rw (lt-ltb p b h) (or-true (ltb b k))
-
-pub may_not_follow : (k p b : ℕ) → k ≤ b → b ≤ p → may_follow k p b ≡ false
-unfolding may_follow
-may_not_follow k p b h l = rw (le-ltb b k h) (le-ltb p b l)
 
 follows_may : (k p b : ℕ) → may_follow k p b ≡ true → (b < k) ⊎ (p < b)
 unfolding may_follow

@@ -1,12 +1,11 @@
 -- The laws of a record's 12 bytes, read and written, and of the bytes of several records.
 -- Assumes nothing.
-use Prim.Native.Nat.{ℕ, suc, ◌+◌, ◌*◌, ◌/◌, ◌<◌, ◌≤◌}
-use mathlib.Core.List.{List, [], ◌∷◌, ◌++◌, flat_map, append_assoc}
+use Prim.Native.Nat.{ℕ, ◌+◌, ◌*◌, ◌/◌, ◌%◌, ◌<◌, ◌≤◌}
+use mathlib.Core.List.{List, [], ◌∷◌, ◌++◌, flat_map}
 use mathlib.Core.Path.{◌≡◌, refl, ap, ◌∙◌}
-use lib.ListN.{length, get_or, set, take, drop, length-append}
-use lib.Seq.{get_or-drop, sets, sets-eq}
-use native.Mathlib.Nat.{add-zero, add-suc, add_assoc}
-use native.Mathlib.Numerals.{add-one}
+use lib.ListN.{length, get_or, drop, length-append}
+use lib.Seq.{get_or-drop}
+use native.Mathlib.Nat.{add-zero}
 use native.Mathlib.Omega.{arith}
 use Rattle.base.specs.Lists.{up_to, splice}
 use Rattle.base.proofs.Blocks.{each_all, flat_map-append, flat_map-one, length-flat_map}
@@ -15,20 +14,32 @@ use Rattle.dayfile.specs.declared.codec.Record.{Record}
 use Rattle.dayfile.specs.Codec.{bytes_of, two, four, decode, encode, records, encode_all}
 use Rattle.dayfile.specs.Legs.{none}
 
-module _ (bs : List ℕ) (at : ℕ) where
-  -- the number in two bytes, by the bytes, and the number in four, by two twos
-  pub two_by_bytes : get_or bs at 0 + 256 * get_or bs (at + 1) 0 ≡ two (drop at bs) 0
-  two_by_bytes = simp (get_or-drop, add-zero)
+module _ (bs : List ℕ) (at i : ℕ) where
+  -- the numbers in two and in four bytes, the lowest byte first, by what each byte is worth
+  two_read : get_or bs (at + i) 0 + get_or bs (at + (i + 1)) 0 * 256 ≡ two (drop at bs) i
+  two_read = simp get_or-drop (omega arith)
 
-  pub four_by_twos : two (drop at bs) 0 + 65536 * two (drop (at + 2) bs) 0 ≡ four (drop at bs) 0
-  four_by_twos = simp (get_or-drop, add-zero, add_assoc) (omega arith)
+  four_read : get_or bs (at + i) 0 + get_or bs (at + (i + 1)) 0 * 256 + get_or bs (at + (i + 2)) 0 * 65536 + get_or bs (at + (i + 3)) 0 * 16777216
+      ≡ four (drop at bs) i
+  four_read = simp get_or-drop (omega arith)
 
-  -- dropping up to a number reads it at index 0
-  pub two_on : (i : ℕ) → two (drop (at + i) bs) 0 ≡ two (drop at bs) i
-  two_on i = simp (get_or-drop, add-zero, add_assoc)
+-- the record of the fields, each by its own bytes
+pub decoded : (bs : List ℕ) (at f s g m : ℕ)
+    → f ≡ get_or bs (at + 2) 0 + get_or bs (at + 3) 0 * 256
+    → s ≡ get_or bs (at + 4) 0 + get_or bs (at + 5) 0 * 256
+    → g ≡ get_or bs (at + 6) 0 + get_or bs (at + 7) 0 * 256
+    → m ≡ get_or bs (at + 8) 0 + get_or bs (at + 9) 0 * 256 + get_or bs (at + 10) 0 * 65536 + get_or bs (at + 11) 0 * 16777216
+    → record { kind = get_or bs at 0; pad = get_or bs (at + 1) 0; first = f; second = s; gap = g; metres = m } ≡ decode (drop at bs)
+unfolding decode
+decoded bs at f s g m p q r t =
+    rw (p, q, r, t, two_read bs at 2, two_read bs at 4, two_read bs at 6, four_read bs at 8, get_or-drop at bs 0 0, get_or-drop at bs 1 0, add-zero at)
 
-  pub four_on : (i : ℕ) → four (drop (at + i) bs) 0 ≡ four (drop at bs) i
-  four_on i = simp (get_or-drop, add-zero, add_assoc)
+-- the bytes of a number, each by what it is worth
+pub bytes_told : (x : ℕ) → x % 256 ∷ x / 256 % 256 ∷ x / 65536 % 256 ∷ x / 16777216 % 256 ∷ [] ≡ bytes_of 4 x
+bytes_told x =
+    let second : x / 65536 ≡ x / 256 / 256 = omega arith in
+    let third : x / 16777216 ≡ x / 256 / 256 / 256 = omega arith in
+    rw (second, third)
 
 pub length-records : (bs : List ℕ) → length (records bs) ≡ length bs / 12
 unfolding records
@@ -38,42 +49,6 @@ length-records bs = length-up_to (length bs / 12) _
 pub record_at : (bs : List ℕ) (i : ℕ) → i < length bs / 12 → get_or (records bs) i none ≡ decode (drop (12 * i) bs)
 unfolding records
 record_at bs i h = get_or-up_to (length bs / 12) (λ (j : ℕ). decode (drop (12 * j) bs)) i none h
-
--- vs stored element by element from index at + k
-abbrev pub stores : List ℕ → ℕ → ℕ → List ℕ → List ℕ
-stores l at k [] = l
-stores l at k (a ∷ vs) = stores (set l (at + k) a) at (suc k) vs
-
-stores_sets : (vs l : List ℕ) (at k : ℕ) → stores l at k vs ≡ sets l (at + k) vs
-stores_sets [] l at k = refl
-stores_sets (a ∷ vs) l at k = rw (← add-suc) (stores_sets vs (set l (at + k) a) at (suc k))
-
--- what straight-line code leaves that stores a list from index at
-pub stored : (a : ℕ) (vs old : List ℕ) (at : ℕ) → at + length (a ∷ vs) ≤ length old
-    → stores (set old at a) at 1 vs ≡ splice at (a ∷ vs) old
-unfolding splice
-stored a vs old at h =
-    stores_sets vs (set old at a) at 1 ∙ rw add-one (sets-eq (a ∷ vs) old at h ∙ append_assoc (take at old) (a ∷ vs) _)
-
--- the fields, one behind another
-pub fields_put : (r : Record) (at : ℕ) (old a b c d e : List ℕ) → at + 12 ≤ length old
-    → a ≡ splice at (r.kind ∷ r.pad ∷ []) old
-    → b ≡ splice (at + 2) (bytes_of 2 r.first) a
-    → c ≡ splice (at + 4) (bytes_of 2 r.second) b
-    → d ≡ splice (at + 6) (bytes_of 2 r.gap) c
-    → e ≡ splice (at + 8) (bytes_of 4 r.metres) d
-    → e ≡ splice at (encode r) old
-unfolding encode
-fields_put r at old a b c d e fits p q s t w =
-    let kinds : List ℕ = r.kind ∷ r.pad ∷ [] in
-    let first : b ≡ splice at (kinds ++ bytes_of 2 r.first) old = q ∙ rw p (splice_on at kinds (bytes_of 2 r.first) old (omega arith)) in
-    let second : c ≡ splice at (kinds ++ bytes_of 2 r.first ++ bytes_of 2 r.second) old =
-    s ∙ rw first (splice_on at (kinds ++ bytes_of 2 r.first) (bytes_of 2 r.second) old (omega arith))
-    in
-    let third : d ≡ splice at (kinds ++ bytes_of 2 r.first ++ bytes_of 2 r.second ++ bytes_of 2 r.gap) old =
-    t ∙ rw second (splice_on at (kinds ++ bytes_of 2 r.first ++ bytes_of 2 r.second) (bytes_of 2 r.gap) old (omega arith))
-    in
-    w ∙ rw third (splice_on at (kinds ++ bytes_of 2 r.first ++ bytes_of 2 r.second ++ bytes_of 2 r.gap) (bytes_of 4 r.metres) old (omega arith))
 
 length-encode : (r : Record) → length (encode r) ≡ 12
 unfolding encode

@@ -18,6 +18,6 @@ fronts a k n xs ys within fits =
 
 pub loop-done-preserved : goal.loop-done-preserved
 loop-done-preserved g c =
-    let got = c.in_ok-count.ensures in
-    let joined = fronts c.loop-done.done _ c.in_ok-count.count c.loop-done.buffer c.read_some.new.buffer c.loop-done.invariant.0 got.count.0 in
+    let got = c.in-Ok.ensures in
+    let joined = fronts c.loop-done.done _ c.in-Ok.count c.loop-done.buffer c.read_some.new.buffer c.loop-done.invariant.0 got.count.0 in
     (search rules, subst (Consumes _ _) (sym joined) (Consumes-trans _ _ _ _ _ c.loop-done.invariant.1 got.bytes))

@@ -1,18 +1,12 @@
 -- `near::occupancy` meets its contract: a refusal of the book is handed up with zeros, else the answers are those of the mask of its
 -- stands. Assumes nothing.
-use mathlib.Core.Path.{◌≡◌, sym}
+use mathlib.Core.Path.{sym}
 use borrow.Author.Rules.{rules}
-use lib.Count.{ones-le, trailing_le}
-use lib.Dec.{lit<}
-use native.Mathlib.Nat.{lt_of_le_of_lt}
-use native.Mathlib.Omega.{arith}
 use Rattle.base.proofs.Numbers.{exits, refused_number}
-use Rattle.road.specs.Table.{most_places}
 use Rattle.book.specs.Book.{BookArrays}
 use Rattle.book.proofs.Sound.{book_sound}
 use Rattle.near.proofs.Standing.{enough_stands, as_many_stands, stands_in_table}
 use Rattle.near.proofs.HeldPlaces.{occupancy_refused, occupancy_told}
-use Rattle.near.proofs.mask.Laws.{mask_below}
 use Rattle.near.proofs.occupancy.Goals as goal
 
 pub returns-in_err-test : goal.returns-in_err-test
@@ -29,12 +23,6 @@ slice_bounds-of_places-end c = let arrays : BookArrays c.args.book = record { st
 pub of_places-mask-requires : goal.of_places-mask-requires
 of_places-mask-requires c = let arrays : BookArrays c.args.book = record { starts = search rules; stands = search rules; requests = search rules; driven = search rules } in
     stands_in_table arrays (book_sound (sym c.in_ok-test.ensures))
-
-pub overflow_cast-result : goal.overflow_cast-result
-overflow_cast-result c = omega (arith, ones-le 64 c.of_places-mask.result (rw c.of_places-mask.ensures (mask_below most_places _)))
-
-pub overflow_cast-result-2 : goal.overflow_cast-result-2
-overflow_cast-result-2 c = record { fits = lt_of_le_of_lt (trailing_le 64 _) (lit< tt) }
 
 pub returns : goal.returns
 returns c = let arrays : BookArrays c.args.book = record { starts = search rules; stands = search rules; requests = search rules; driven = search rules } in

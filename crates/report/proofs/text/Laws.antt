@@ -7,12 +7,11 @@ use mathlib.Core.Path.{◌≡◌, refl, sym, ◌∙◌}
 use borrow.Author.Tests.{eq-eqb, ne_eqb, lt-ltb}
 use native.Mathlib.Decide.{dec_lt}
 use lib.ListN.{length, take, drop, length-append}
-use lib.Seq.{take_at, drop-drop}
+use lib.Seq.{take_at}
 use native.Mathlib.Nat.{not-suc-le-zero, zero-lt-suc, le_of_suc-le-suc, mod-lt, mod-eq_of_lt, div-eq_of_lt}
 use native.Mathlib.Numerals.{add-one}
 use native.Mathlib.Omega.{arith}
 use Rattle.base.specs.Decimal.{up_to_digits, decimal}
-use Rattle.base.specs.Lists.{splice}
 use Rattle.base.proofs.Decimal.{digits_more, fewer_digits, length-decimal}
 use Rattle.base.proofs.Lists.{splice-none, splice_on}
 use Rattle.std.specs.Fmt.{digits_onto, digits, decimal as written}
@@ -60,13 +59,6 @@ decimal_end n start bytes rest h long e =
     rw e (take_at (written n) rest (20 - start) left ∙ same)
 
 -- ---- text behind text
-
--- a text copied into the part of a buffer from index at that is as long
-pub copied : (text old new : List ℕ) (at : ℕ) → new ≡ text → take at old ++ (new ++ drop (at + length text - at) (drop at old)) ≡ splice at text old
-unfolding splice
-copied text old new at e =
-    let long : at + length text - at ≡ length text = omega arith in
-    rw (e, long, drop-drop (length text) at old)
 
 pub put_on : {a b old mid now : List ℕ} {at x y : ℕ} → Put a old at mid x → Put b mid x now y → y ≤ length old
     → Put (a ++ b) old at now y

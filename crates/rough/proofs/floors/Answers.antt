@@ -1,6 +1,5 @@
 -- `rough::floors` meets its contract: a refusal is handed up with zeros; once all is tested neither least plan is refused, and the two are the
 -- floors. Assumes nothing.
-use Prim.Native.Nat.{ℕ}
 use mathlib.Core.Path.{◌≡◌, refl, sym, ap, ◌∙◌}
 use Rattle.std.specs.Prelude.{Err}
 use Rattle.base.specs.declared.Refusal.{Refusal}

@@ -1,6 +1,5 @@
 -- `sheet::write` meets its contract: a refusal leaves the buffer as it is, else the rows of the served day are at its front.
 -- Assumes nothing.
-use Prim.Native.Nat.{◌≤◌}
 use mathlib.Core.Path.{◌≡◌, sym}
 use borrow.Author.Rules.{rules}
 use lib.ListN.{length}

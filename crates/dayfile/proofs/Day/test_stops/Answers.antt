@@ -2,7 +2,6 @@
 -- Assumes nothing.
 use borrow.Author.Tests.{lt-ltb, le-ltb}
 use lib.ListN.{length}
-use native.Mathlib.Omega.{arith}
 use Rattle.base.proofs.Tests.{begun, turned, ended, below_fails}
 use Rattle.dayfile.proofs.Day.test_stops.Invariants.{rule}
 use Rattle.dayfile.proofs.Day.test_stops.Goals as goal

@@ -7,7 +7,6 @@ use lib.ListN.{length}
 use native.Mathlib.Nat.{zero-add}
 use native.Mathlib.Omega.{arith}
 use Rattle.base.specs.Lists.{up_to, splice}
-use Rattle.base.proofs.Lists.{splice_ended}
 use Rattle.road.specs.Table.{leg_count, in_order}
 use Rattle.road.proofs.Order.{legs_before, leg_count_more, in_order_more, length-in_order}
 use Rattle.dayfile.specs.Codec.{encode_all}
@@ -32,6 +31,3 @@ put_to-requires c = let h = legs_before _ _ c.loop-v-test.true in
 
 pub loop-v-preserved : goal.loop-v-preserved
 loop-v-preserved c = row_put _ _ _ _ _ _ c.requires.1 c.loop-v.invariant c.loop-v-test.true c.put_to.ensures
-
-pub returns : goal.returns
-returns c = splice_ended _ _ _ _ _ _ c.loop-v.invariant c.loop-v-test.false

@@ -1,10 +1,8 @@
 -- `dayfile::legs::put_to` meets its contract: the loop writes the legs' records one behind another.
 -- Assumes nothing.
 use mathlib.Core.Path.{◌≡◌, ap, ◌∙◌}
-use borrow.Author.Rules.{rules}
 use native.Mathlib.Nat.{le_of_lt}
 use native.Mathlib.Omega.{arith}
-use Rattle.base.proofs.Lists.{splice_ended}
 use Rattle.road.specs.Table.{leg_count}
 use Rattle.road.proofs.Order.{legs_counted}
 use Rattle.road.proofs.Table.{entry_in}
@@ -20,18 +18,6 @@ counted c = c.legs-from.ensures ∙ legs_counted _ (le_of_lt c.requires.0)
 pub loop-u-init : goal.loop-u-init
 loop-u-init c = put_one_begun _ _ _ _ (rw (counted (goal.at.loop-u-init c).After-legs-from) c.requires.1)
 
-pub overflow_add-from : goal.overflow_add-from
-overflow_add-from c = let h = counted (goal.at.overflow_add-from c).After-legs-from in search rules
-
-pub overflow_mul-from : goal.overflow_mul-from
-overflow_mul-from c = let h = counted (goal.at.overflow_mul-from c).After-legs-from in search rules
-
-pub put-requires : goal.put-requires
-put-requires c = let h = counted (goal.at.put-requires c).After-legs-from in search rules
-
 pub loop-u-preserved : goal.loop-u-preserved
 loop-u-preserved c = put_one_turned _ _ _ _ (rw (counted (goal.at.loop-u-preserved c).After-legs-from) c.requires.1) _ _ _ _ c.loop-u.invariant (omega arith)
     (ap (leg _ _) (c.metres.ensures ∙ entry_in _ _ _ (omega arith) (omega arith))) (rw c.from.ensures at c.put.ensures)
-
-pub returns : goal.returns
-returns c = rw (← counted (goal.at.returns c).After-legs-from) (splice_ended _ _ _ _ _ _ c.loop-u.invariant c.loop-u-test.false)

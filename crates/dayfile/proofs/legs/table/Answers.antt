@@ -31,15 +31,6 @@ few c = rw (counted c) (leg_count_most _ c.requires.0)
 pub loop-i-init : goal.loop-i-init
 loop-i-init c = fill_begun _ _ _
 
-pub overflow_mul-i : goal.overflow_mul-i
-overflow_mul-i c = let h = few (goal.at.overflow_mul-i c).After-legs-legs in search rules
-
-pub read-requires : goal.read-requires
-read-requires c = let h = counted (goal.at.read-requires c).After-legs-legs in search rules
-
-pub offset_bounds-table-i : goal.offset_bounds-table-i
-offset_bounds-table-i c = let h = few (goal.at.offset_bounds-table-i c).After-legs-legs in search rules
-
 pub bounds-table-i : goal.bounds-table-i
 bounds-table-i c = let h = few (goal.at.bounds-table-i c).After-legs-legs in search rules
 

@@ -2,10 +2,7 @@
 -- Assumes nothing.
 use Prim.Native.Nat.{ℕ, ◌+◌}
 use mathlib.Core.List.{List}
-use mathlib.Core.Path.{◌≡◌, sym, ap, ◌∙◌}
-use borrow.Author.Rules.{rules}
-use lib.Seq.{length-take-le}
-use native.Mathlib.Omega.{arith}
+use mathlib.Core.Path.{◌≡◌, ap, ◌∙◌}
 use Rattle.base.specs.Lists.{padded}
 use Rattle.base.proofs.Lists.{padded_by}
 use Rattle.road.specs.Table.{leg_count}
@@ -30,21 +27,6 @@ made rs s starts requests e f =
 -- the records before the cranes
 counted : (c : After-legs-legs) → c.legs-legs.result ≡ leg_count c.args.s.second
 counted c = c.legs-legs.ensures ∙ legs_counted _ c.requires.places
-
-pub slice_bounds-read-end : goal.slice_bounds-read-end
-slice_bounds-read-end c = sym (length-take-le _ _ c.requires.cranes)
-
-pub read-requires : goal.read-requires
-read-requires c = let h = counted (goal.at.read-requires c).After-legs-legs in omega (arith, length-take-le {A = ℕ})
-
-pub overflow_add-legs : goal.overflow_add-legs
-overflow_add-legs c = let h = counted (goal.at.overflow_add-legs c).After-legs-legs in search rules
-
-pub slice_bounds-read-end-2 : goal.slice_bounds-read-end-2
-slice_bounds-read-end-2 c = sym (length-take-le _ _ c.requires.calls)
-
-pub read-requires-2 : goal.read-requires-2
-read-requires-2 c = let h = counted (goal.at.read-requires-2 c).After-legs-legs in omega (arith, length-take-le {A = ℕ})
 
 pub returns : goal.returns
 returns c = let rs = records c.args.bytes.now in

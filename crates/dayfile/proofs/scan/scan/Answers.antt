@@ -51,10 +51,6 @@ loop-index-init c = record { most = zero-le; kept = progress_start; same = refl 
 pub returns-in-Err : goal.returns-in-Err
 returns-in-Err c = stopped _ c.loop-index.state c.loop-index.index c.read-r.result c.loop-index.invariant (omega arith) c.read-r.ensures _ c.in-Err.ensures.number
 
-pub next-state-requires : goal.next-state-requires
-next-state-requires c = let k = c.loop-index.invariant.kept in
-    record { first = omega arith; second = k.places; cranes = k.cranes; calls = k.calls }
-
 pub loop-index-preserved : goal.loop-index-preserved
 loop-index-preserved c = turned _ c.loop-index.state c.loop-index.index c.read-r.result c.loop-index.invariant (omega arith)
     c.read-r.ensures c.next-state.result (sym c.in-Ok.ensures.number) (c.next-state.ensures c.read-r.result (sym c.in-Ok.ensures.kind))

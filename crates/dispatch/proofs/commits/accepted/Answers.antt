@@ -92,20 +92,20 @@ of_book-requires c = sound_given (arrays (goal.at.of_book-requires c).After-tidy
 pub slice_bounds-starts-end : goal.slice_bounds-starts-end
 slice_bounds-starts-end c = (tidy_fits (goal.at.slice_bounds-starts-end c).After-tidy-tidy).starts
 
-pub slice_bounds-serve_call-end : goal.slice_bounds-serve_call-end
-slice_bounds-serve_call-end c = sym (starts-long (tidy_fits (goal.at.slice_bounds-serve_call-end c).After-tidy-tidy))
+pub slice_bounds-instance-end : goal.slice_bounds-instance-end
+slice_bounds-instance-end c = sym (starts-long (tidy_fits (goal.at.slice_bounds-instance-end c).After-tidy-tidy))
 
 pub slice_bounds-requests-end : goal.slice_bounds-requests-end
 slice_bounds-requests-end c = (tidy_fits (goal.at.slice_bounds-requests-end c).After-tidy-tidy).requests
 
-pub slice_bounds-serve_call-end-2 : goal.slice_bounds-serve_call-end-2
-slice_bounds-serve_call-end-2 c = sym (requests_long (tidy_fits (goal.at.slice_bounds-serve_call-end-2 c).After-tidy-tidy))
+pub slice_bounds-instance-end-2 : goal.slice_bounds-instance-end-2
+slice_bounds-instance-end-2 c = sym (requests_long (tidy_fits (goal.at.slice_bounds-instance-end-2 c).After-tidy-tidy))
 
 pub slice_bounds-stands-end : goal.slice_bounds-stands-end
 slice_bounds-stands-end c = (tidy_fits (goal.at.slice_bounds-stands-end c).After-tidy-tidy).stands
 
-pub slice_bounds-serve_call-end-3 : goal.slice_bounds-serve_call-end-3
-slice_bounds-serve_call-end-3 c = sym (stands_long (tidy_fits (goal.at.slice_bounds-serve_call-end-3 c).After-tidy-tidy))
+pub slice_bounds-serve_call-end : goal.slice_bounds-serve_call-end
+slice_bounds-serve_call-end c = sym (stands_long (tidy_fits (goal.at.slice_bounds-serve_call-end c).After-tidy-tidy))
 
 pub serve_call-step-requires : goal.serve_call-step-requires
 serve_call-step-requires c = let k = tested_so (goal.at.serve_call-step-requires c).After-tidy-tidy in

@@ -57,14 +57,14 @@ cost-least-requires c = let k = (sound (goal.at.cost-least-requires c).Start).co
 pub slice_bounds-starts-end : goal.slice_bounds-starts-end
 slice_bounds-starts-end c = (fits (goal.at.slice_bounds-starts-end c).Start).starts
 
-pub slice_bounds-floor-end : goal.slice_bounds-floor-end
-slice_bounds-floor-end c = sym (starts-long (fits (goal.at.slice_bounds-floor-end c).Start))
+pub slice_bounds-instance-end : goal.slice_bounds-instance-end
+slice_bounds-instance-end c = sym (starts-long (fits (goal.at.slice_bounds-instance-end c).Start))
 
 pub slice_bounds-requests-end : goal.slice_bounds-requests-end
 slice_bounds-requests-end c = (fits (goal.at.slice_bounds-requests-end c).Start).requests
 
-pub slice_bounds-floor-end-2 : goal.slice_bounds-floor-end-2
-slice_bounds-floor-end-2 c = sym (requests_long (fits (goal.at.slice_bounds-floor-end-2 c).Start))
+pub slice_bounds-instance-end-2 : goal.slice_bounds-instance-end-2
+slice_bounds-instance-end-2 c = sym (requests_long (fits (goal.at.slice_bounds-instance-end-2 c).Start))
 
 pub floor-floor-requires : goal.floor-floor-requires
 floor-floor-requires c = let m = book_movable (arrays (goal.at.floor-floor-requires c).Start) (sound (goal.at.floor-floor-requires c).Start) (omega (arith, plan_long (goal.at.floor-floor-requires c).Start)) (omega (arith, weights_long (goal.at.floor-floor-requires c).Start)) c.copy-plan.ensures c.copy-weights.ensures

@@ -41,20 +41,20 @@ of_book-requires c = let g = given (goal.at.of_book-requires c).Start in sound_g
 pub slice_bounds-starts-end : goal.slice_bounds-starts-end
 slice_bounds-starts-end c = (day_fits (given (goal.at.slice_bounds-starts-end c).Start)).starts
 
-pub slice_bounds-serve_all-end : goal.slice_bounds-serve_all-end
-slice_bounds-serve_all-end c = sym (starts-long (day_fits (given (goal.at.slice_bounds-serve_all-end c).Start)))
+pub slice_bounds-instance-end : goal.slice_bounds-instance-end
+slice_bounds-instance-end c = sym (starts-long (day_fits (given (goal.at.slice_bounds-instance-end c).Start)))
 
 pub slice_bounds-requests-end : goal.slice_bounds-requests-end
 slice_bounds-requests-end c = calls_fit (given (goal.at.slice_bounds-requests-end c).Start)
 
-pub slice_bounds-serve_all-end-2 : goal.slice_bounds-serve_all-end-2
-slice_bounds-serve_all-end-2 c = sym (calls-long (given (goal.at.slice_bounds-serve_all-end-2 c).Start))
+pub slice_bounds-instance-end-2 : goal.slice_bounds-instance-end-2
+slice_bounds-instance-end-2 c = sym (calls-long (given (goal.at.slice_bounds-instance-end-2 c).Start))
 
 pub slice_bounds-stands-end : goal.slice_bounds-stands-end
 slice_bounds-stands-end c = (day_fits (given (goal.at.slice_bounds-stands-end c).Start)).stands
 
-pub slice_bounds-serve_all-end-3 : goal.slice_bounds-serve_all-end-3
-slice_bounds-serve_all-end-3 c = sym (stands_long (day_fits (given (goal.at.slice_bounds-serve_all-end-3 c).Start)))
+pub slice_bounds-serve_all-end : goal.slice_bounds-serve_all-end
+slice_bounds-serve_all-end c = sym (stands_long (day_fits (given (goal.at.slice_bounds-serve_all-end c).Start)))
 
 pub serve_all-driven-requires : goal.serve_all-driven-requires
 serve_all-driven-requires c = let g = given (goal.at.serve_all-driven-requires c).Start in
@@ -70,18 +70,6 @@ serve_all-driven-requires c = let g = given (goal.at.serve_all-driven-requires c
       driven = few;
       costed = few;
     }
-
-pub slice_bounds-starts-end-2 : goal.slice_bounds-starts-end-2
-slice_bounds-starts-end-2 c = (day_fits (given (goal.at.slice_bounds-starts-end-2 c).Start)).starts
-
-pub slice_bounds-floor-end : goal.slice_bounds-floor-end
-slice_bounds-floor-end c = sym (starts-long (day_fits (given (goal.at.slice_bounds-floor-end c).Start)))
-
-pub slice_bounds-requests-end-2 : goal.slice_bounds-requests-end-2
-slice_bounds-requests-end-2 c = calls_fit (given (goal.at.slice_bounds-requests-end-2 c).Start)
-
-pub slice_bounds-floor-end-2 : goal.slice_bounds-floor-end-2
-slice_bounds-floor-end-2 c = sym (calls-long (given (goal.at.slice_bounds-floor-end-2 c).Start))
 
 pub floor-floor-requires : goal.floor-floor-requires
 floor-floor-requires c = let g = given (goal.at.floor-floor-requires c).Start in
@@ -100,12 +88,6 @@ slice_bounds-home-end c = let g = given (goal.at.slice_bounds-home-end c).Start 
     let own = own_made _ (room g) c.own-plan.ensures c.zeros-weights.ensures in
     let done = c.serve_all-driven.ensures.done _ _ (sound_roads (day_sound g)) (day_kept g c.of_book.ensures own) (day_called g) in
     sym (ap length (last_lent g done _) ∙ last_long g done)
-
-pub slice_bounds-starts-end-3 : goal.slice_bounds-starts-end-3
-slice_bounds-starts-end-3 c = (day_fits (given (goal.at.slice_bounds-starts-end-3 c).Start)).starts
-
-pub slice_bounds-home-end-2 : goal.slice_bounds-home-end-2
-slice_bounds-home-end-2 c = sym (starts-long (day_fits (given (goal.at.slice_bounds-home-end-2 c).Start)))
 
 pub home-home-requires : goal.home-home-requires
 home-home-requires c = let g = given (goal.at.home-home-requires c).Start in

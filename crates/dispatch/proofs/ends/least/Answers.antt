@@ -12,8 +12,8 @@ cost-requires c = let few = movable_few c.move_all.ensures.there in
       few = omega arith;
       planned = omega arith;
       costed = c.move_all.ensures.there.kept.table.costed;
-      below = (plan_facts _ _ _ c.move_all.ensures.there.kept.certified.planned).below;
+      below = rw c.stops.ensures (plan_facts _ _ _ c.move_all.ensures.there.kept.certified.planned).below;
     }
 
 pub returns : goal.returns
-returns c = (c.cost.ensures ∙ movable_least c.move_all.ensures.there, c.move_all.ensures.there.kept.table.costed)
+returns c = ((rw c.stops.ensures at c.cost.ensures) ∙ movable_least c.move_all.ensures.there, c.move_all.ensures.there.kept.table.costed)

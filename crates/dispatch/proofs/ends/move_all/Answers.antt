@@ -8,7 +8,7 @@ use Rattle.dispatch.proofs.ends.move_all.Goals as goal
 use Rattle.dispatch.proofs.ends.move_all.Goals.{In-loop-end}
 
 -- the end that is next
-next : (c : In-loop-end) → c.loop-end.end < length c.args.starts.now
+next : (c : In-loop-end) → c.loop-end.end < length c.args.instance.starts.now
 next c = omega (arith, c.requires.ending.cranes, c.loop-end-test.true)
 
 pub loop-end-init : goal.loop-end-init

@@ -5,4 +5,4 @@ use Rattle.dispatch.proofs.ends.Laws.{Moving}
 use Rattle.dispatch.proofs.ends.move_all.Given as goal
 
 abbrev pub invariant-loop-end : goal.invariant-loop-end
-invariant-loop-end l = Moving (entry (metres_of l.table)) l.starts l.calls l.to l.matching.plan l.matching.weights l.matching.costs l.end
+invariant-loop-end l = Moving (entry (metres_of l.instance.table.now)) l.instance.starts.now l.instance.calls.now l.to l.matching.plan l.matching.weights l.matching.costs l.end

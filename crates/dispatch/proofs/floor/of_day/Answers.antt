@@ -17,29 +17,29 @@ use Rattle.dispatch.proofs.floor.of_day.Goals as goal
 use Rattle.dispatch.proofs.floor.of_day.Goals.{After-fill, After-take_all, Start}
 
 -- every call is at a place of the table
-called : (c : Start) → (i : ℕ) → i < length c.args.requests.now → get_or c.args.requests.now i 0 < c.requires.places
+called : (c : Start) → (i : ℕ) → i < length c.args.instance.calls.now → get_or c.args.instance.calls.now i 0 < c.requires.places
 called c i h = c.requires.asked.day.called (entry_in _ i h)
 
 -- the plan without calls
-own : (c : After-fill) → Movable c.requires.places (entry (metres_of c.args.table.now)) c.args.starts.now [] c.args.starts.now
+own : (c : After-fill) → Movable c.requires.places (entry (metres_of c.args.instance.table.now)) c.args.instance.starts.now [] c.args.instance.starts.now
     c.own-plan.result c.zeros-weights.result c.fill.new.costs
 own c =
-    let uncalled_here : Asked c.requires.places c.args.starts.now [] = record { day = instance_first 0 c.requires.asked.day; cranes = c.requires.asked.cranes; few = search rules }
+    let uncalled_here : Asked c.requires.places c.args.instance.starts.now [] = record { day = instance_first 0 c.requires.asked.day; cranes = c.requires.asked.cranes; few = search rules }
     in
     own_movable _ _ c.requires.legible (uncalled_here) c.own-plan.ensures c.zeros-weights.ensures c.fill.ensures
 
 -- the plan with all calls
-taken : (c : After-take_all) → Movable c.requires.places (entry (metres_of c.args.table.now)) c.args.starts.now c.args.requests.now c.args.starts.now
+taken : (c : After-take_all) → Movable c.requires.places (entry (metres_of c.args.instance.table.now)) c.args.instance.starts.now c.args.instance.calls.now c.args.instance.starts.now
     c.take_all.new.matching.plan c.take_all.new.matching.weights c.take_all.new.matching.costs
 taken c =
-    let called_here : (i : ℕ) → i < length c.args.requests.now → get_or c.args.requests.now i 0 < c.requires.places = λ i h. c.requires.asked.day.called (entry_in _ i h)
+    let called_here : (i : ℕ) → i < length c.args.instance.calls.now → get_or c.args.instance.calls.now i 0 < c.requires.places = λ i h. c.requires.asked.day.called (entry_in _ i h)
     in
-    let uncalled_here : Asked c.requires.places c.args.starts.now [] = record { day = instance_first 0 c.requires.asked.day; cranes = c.requires.asked.cranes; few = search rules }
+    let uncalled_here : Asked c.requires.places c.args.instance.starts.now [] = record { day = instance_first 0 c.requires.asked.day; cranes = c.requires.asked.cranes; few = search rules }
     in
-    let own_here : Movable c.requires.places (entry (metres_of c.args.table.now)) c.args.starts.now [] c.args.starts.now
+    let own_here : Movable c.requires.places (entry (metres_of c.args.instance.table.now)) c.args.instance.starts.now [] c.args.instance.starts.now
     c.own-plan.result c.zeros-weights.result c.fill.new.costs = own_movable _ _ c.requires.legible (uncalled_here) c.own-plan.ensures c.zeros-weights.ensures c.fill.ensures
     in
-    c.take_all.ensures.there c.requires.places c.args.starts.now (own_here) (called_here)
+    c.take_all.ensures.there c.requires.places c.args.instance.starts.now (own_here) (called_here)
 
 pub fill-requires : goal.fill-requires
 fill-requires c = record {
@@ -51,7 +51,7 @@ fill-requires c = record {
 }
 
 pub take_all-requires : goal.take_all-requires
-take_all-requires c = record { places = c.requires.places; stands = c.args.starts.now; movable = own (goal.at.take_all-requires c).After-fill; called = called (goal.at.take_all-requires c).Start; few = c.requires.asked.few }
+take_all-requires c = record { places = c.requires.places; stands = c.args.instance.starts.now; movable = own (goal.at.take_all-requires c).After-fill; called = called (goal.at.take_all-requires c).Start; few = c.requires.asked.few }
 
 pub cost-requires : goal.cost-requires
 cost-requires c = let m = taken (goal.at.cost-requires c).After-take_all in
@@ -61,8 +61,8 @@ cost-requires c = let m = taken (goal.at.cost-requires c).After-take_all in
       few = omega arith;
       planned = omega arith;
       costed = m.kept.table.costed;
-      below = (plan_facts _ _ _ m.kept.certified.planned).below;
+      below = rw c.stops.ensures (plan_facts _ _ _ m.kept.certified.planned).below;
     }
 
 pub returns : goal.returns
-returns c = c.cost.ensures ∙ movable_least (taken (goal.at.returns c).After-take_all)
+returns c = (rw c.stops.ensures at c.cost.ensures) ∙ movable_least (taken (goal.at.returns c).After-take_all)

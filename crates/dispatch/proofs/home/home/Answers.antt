@@ -23,6 +23,3 @@ least-requires c = record {
   movable = own_movable _ _ c.requires.legible c.requires.asked c.own-plan.ensures c.zeros-weights.ensures c.fill.ensures;
   ending = c.requires.ending;
 }
-
-pub returns : goal.returns
-returns c = c.least.ensures.0

@@ -1,18 +1,8 @@
 -- `dispatch::legs::fill_row` meets its contract: the row from the starts, then the row from the calls. Assumes nothing.
-use mathlib.Core.Path.{sym}
-use lib.ListN.{length}
-use lib.Seq.{length-take-le}
-use native.Mathlib.Nat.{le_refl}
 use Rattle.road.specs.Table.{metres_of, entry}
 use Rattle.dispatch.proofs.legs.Laws.{row_joined}
 use Rattle.dispatch.proofs.legs.fill_row.Goals as goal
 
-pub slice_bounds-fill_from-end-2 : goal.slice_bounds-fill_from-end-2
-slice_bounds-fill_from-end-2 c = sym (length-take-le _ _ c.requires.0)
-
-pub fill_from-requires : goal.fill_from-requires
-fill_from-requires c = rw (length-take-le (length c.args.starts.now) c.args.row.now c.requires.0) (le_refl _)
-
 pub returns : goal.returns
-returns c = row_joined (λ p. entry (metres_of c.args.table.now) p c.args.to) c.args.starts.now c.args.calls.now c.args.row.now _ _ c.requires.0 c.requires.1
+returns c = row_joined (λ p. entry (metres_of c.args.instance.table.now) p c.args.to) c.args.instance.starts.now c.args.instance.calls.now c.args.row.now _ _ c.requires.0 c.requires.1
     c.fill_from.ensures c.fill_from-2.ensures

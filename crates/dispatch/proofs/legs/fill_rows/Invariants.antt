@@ -34,4 +34,4 @@ module _ (read : ℕ → ℕ → ℕ) (starts calls old : List ℕ) where
       }
 
 abbrev pub invariant-loop-x : goal.invariant-loop-x
-invariant-loop-x l = RowsFilled l.x (entry (metres_of l.table)) l.starts l.calls l.initial.costs l.costs
+invariant-loop-x l = RowsFilled l.x (entry (metres_of l.instance.table.now)) l.instance.starts.now l.instance.calls.now l.initial.costs l.costs

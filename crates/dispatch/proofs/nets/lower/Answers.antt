@@ -6,7 +6,7 @@ use mir.Syntax.{w64}
 use mir.Val.{to_z, of_z}
 use mir.ValLaws.{to_z-of_z}
 use native.Mathlib.Omega.{arith}
-use Rattle.base.proofs.Lists.{fill_begun, fill_turned, fill_ended}
+use Rattle.base.proofs.Lists.{fill_begun, fill_turned}
 use Rattle.base.proofs.Signed.{difference_fits}
 use Rattle.road.specs.Table.{most_metres}
 use Rattle.dispatch.specs.Search.{at, net_base}
@@ -24,18 +24,6 @@ low c = c.requires.low c.loop-e.e c.loop-e-test.true
 pub loop-e-init : goal.loop-e-init
 loop-e-init c = fill_begun _ _ _
 
-pub bounds-nets-e : goal.bounds-nets-e
-bounds-nets-e c = omega (arith, c.requires.netted, c.loop-e-test.true)
-
-pub lowered-requires : goal.lowered-requires
-lowered-requires c = low (goal.at.lowered-requires c).In-loop-e
-
-pub bounds-list-e : goal.bounds-list-e
-bounds-list-e c = omega (arith, c.requires.listed, c.loop-e.invariant.long, c.loop-e-test.true)
-
 pub loop-e-preserved : goal.loop-e-preserved
 loop-e-preserved c = fill_turned _ _ _ _ _ _ c.requires.listed c.loop-e.invariant c.loop-e-test.true
     (written _ _ (low (goal.at.loop-e-preserved c).In-loop-e) c.lowered.ensures)
-
-pub returns : goal.returns
-returns c = fill_ended _ _ _ _ _ c.loop-e.invariant c.loop-e-test.false

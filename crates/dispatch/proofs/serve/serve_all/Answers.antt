@@ -2,28 +2,12 @@
 -- Assumes nothing.
 use mathlib.Core.Path.{refl}
 use borrow.Author.Rules.{rules}
-use lib.Seq.{length-take-le}
 use native.Mathlib.Omega.{arith}
 use Rattle.dispatch.proofs.DayServed.{run_begun, run_turned, run_ended}
 use Rattle.dispatch.proofs.serve.serve_all.Goals as goal
-use Rattle.dispatch.proofs.serve.serve_all.Goals.{At-loop-i, In-loop-i}
 
 pub loop-i-init : goal.loop-i-init
 loop-i-init c = record { low = search rules; sized = (refl, refl); running = λ n d ways begun called. run_begun _ _ _ _ _ _ _ _ begun }
-
-pub serve_call-step-requires : goal.serve_call-step-requires
-serve_call-step-requires c = (
-  omega arith,
-  record {
-    places = _;
-    metres = _;
-    roads = c.requires.roads;
-    kept = (c.loop-i.invariant.running _ _ c.requires.roads c.requires.kept c.requires.called).kept;
-    on = c.requires.called _ c.loop-i-test.true;
-    space = omega (arith, length-take-le c.loop-i.i c.args.requests.now (omega arith), c.requires.few);
-    ends = λ e h. h;
-  },
-)
 
 pub loop-i-preserved : goal.loop-i-preserved
 loop-i-preserved c = record {

@@ -13,7 +13,7 @@ use Rattle.road.specs.Table.{most_metres}
 use Rattle.book.specs.Book.{follower}
 use Rattle.dispatch.specs.Legs.{leg_at}
 use Rattle.dispatch.specs.Search.{at, net_base, net_of, Totalled}
-use Rattle.dispatch.proofs.weights.renew.Invariants.{Renewing, renew_begun, renew_turned, renew_ended}
+use Rattle.dispatch.proofs.weights.renew.Invariants.{Renewing, renew_turned, renew_ended}
 use Rattle.dispatch.proofs.weights.renew.Goals as goal
 use Rattle.dispatch.proofs.weights.renew.Goals.{After-net_cost-net, In-loop-p}
 
@@ -33,10 +33,6 @@ module _ (net : ℕ) (h : net ≤ net_base + most_metres) {z : ℤ} (e : z ≡ p
   opposite_read : to_z w64 (of_z w64 (pos 0 -ℤ to_z w64 (of_z w64 z))) ≡ neg_ℤ (pos net -ℤ pos net_base)
   opposite_read = rw opposite (to_z-of_z w64 (neg_ℤ (pos net -ℤ pos net_base)) fits)
 
--- the follower of p is in range
-follower_on : (c : In-loop-p) → follower c.args.plan.now c.loop-p.p ≤ c.args.new
-follower_on c = c.requires.matched.below c.loop-p.p c.loop-p-test.true
-
 -- what is known of p's total
 totalled : (c : In-loop-p) → Totalled c.args.new (follower c.args.plan.now) (leg_at c.args.costs.now) (at c.args.totals.now)
 totalled c = c.requires.totalled
@@ -53,28 +49,6 @@ net_low c = omega (arith, (totalled c).most c.loop-p.p c.loop-p-test.true)
 called : (c : After-net_cost-net) → c.net_cost-net.result ≡ pos (net_of (follower c.args.plan.now) (leg_at c.args.costs.now) (at c.args.totals.now) c.loop-p.p) -ℤ pos net_base
 called c = rw (← c.cost.ensures) c.net_cost-net.ensures
 
-pub loop-p-init : goal.loop-p-init
-loop-p-init c = renew_begun _ _ _ _
-
-pub overflow_cast-b : goal.overflow_cast-b
-overflow_cast-b c = omega (arith, follower_on (goal.at.overflow_cast-b c).In-loop-p, c.requires.few)
-
-pub cost-requires : goal.cost-requires
-cost-requires c = (omega (arith, c.loop-p-test, c.requires.few), (omega (arith, follower_on (goal.at.cost-requires c).In-loop-p, c.requires.few), c.requires.costed))
-
-pub net_cost-net-requires : goal.net_cost-net-requires
-net_cost-net-requires c = let t = totalled (goal.at.net_cost-net-requires c).In-loop-p in
-    (rw c.cost.ensures (t.legs c.loop-p.p c.loop-p-test.true), t.most c.loop-p.p c.loop-p-test.true)
-
-pub overflow_sub-weights : goal.overflow_sub-weights
-overflow_sub-weights c = opposite_fits _ (net_low (goal.at.overflow_sub-weights c).In-loop-p) (called (goal.at.overflow_sub-weights c).After-net_cost-net)
-
-pub offset_bounds-weights-b : goal.offset_bounds-weights-b
-offset_bounds-weights-b c = omega (arith, follower_on (goal.at.offset_bounds-weights-b c).In-loop-p, c.requires.few)
-
-pub bounds-weights-b : goal.bounds-weights-b
-bounds-weights-b c = omega (arith, follower_on (goal.at.bounds-weights-b c).In-loop-p, c.requires.weighed, c.loop-p.invariant.weighed)
-
 -- a turn of the loop
 turned : (c : After-net_cost-net) → c.net_cost-net.result ≡ pos (net_of (follower c.args.plan.now) (leg_at c.args.costs.now) (at c.args.totals.now) c.loop-p.p) -ℤ pos net_base
     → net_of (follower c.args.plan.now) (leg_at c.args.costs.now) (at c.args.totals.now) c.loop-p.p ≤ net_base + most_metres
@@ -85,9 +59,6 @@ turned c called low = renew_turned _ _ _ _ c.requires.weighed c.loop-p.invariant
 pub loop-p-preserved : goal.loop-p-preserved
 loop-p-preserved c = turned (goal.at.loop-p-preserved c).After-net_cost-net (called (goal.at.loop-p-preserved c).After-net_cost-net)
     (net_low (goal.at.loop-p-preserved c).In-loop-p)
-
-pub returns : goal.returns
-returns c = renew_ended _ _ _ _ c.requires.weighed c.loop-p.invariant c.loop-p-test.false
 
 pub returns-2 : goal.returns-2
 returns-2 c = renew_ended _ _ _ _ c.requires.weighed (turned (goal.at.returns-2 c).After-net_cost-net (called (goal.at.returns-2 c).After-net_cost-net)

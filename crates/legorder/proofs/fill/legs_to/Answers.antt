@@ -4,7 +4,7 @@ use Prim.Native.Nat.{◌+◌, ◌≤◌}
 use mathlib.Core.Path.{◌≡◌, refl, ◌∙◌}
 use lib.ListN.{length}
 use native.Mathlib.Nat.{le_of_lt}
-use Rattle.base.proofs.Lists.{splice_ended, entries_begun, entries_turned}
+use Rattle.base.proofs.Lists.{entries_begun, entries_turned}
 use Rattle.road.specs.Table.{leg_count}
 use Rattle.road.proofs.Order.{legs_counted}
 use Rattle.legorder.proofs.fill.legs_to.Goals as goal
@@ -31,7 +31,3 @@ loop-u-preserved c = (
   entries_turned _ _ _ _ (firsts_fit (goal.at.loop-u-preserved c).After-legs-from) _ _ _ c.loop-u.invariant.0 c.loop-u-test.true refl,
   entries_turned _ _ _ _ (seconds_fit (goal.at.loop-u-preserved c).After-legs-from) _ _ _ c.loop-u.invariant.1 c.loop-u-test.true refl,
 )
-
-pub returns : goal.returns
-returns c = rw (← counted (goal.at.returns c).After-legs-from)
-    (splice_ended _ _ _ _ _ _ c.loop-u.invariant.0 c.loop-u-test.false, splice_ended _ _ _ _ _ _ c.loop-u.invariant.1 c.loop-u-test.false)

@@ -1,7 +1,7 @@
 -- `report::Printed::put` meets its contract: what is copied into the part of the text is written into the text.
 -- Assumes nothing.
 use mathlib.Core.Path.{refl}
-use Rattle.report.proofs.text.Laws.{copied}
+use Rattle.base.proofs.Lists.{copied}
 use Rattle.report.proofs.Printed.put.Goals as goal
 
 pub returns : goal.returns

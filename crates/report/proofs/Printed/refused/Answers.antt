@@ -11,9 +11,6 @@ use Rattle.report.proofs.text.Laws.{put_on}
 use Rattle.report.proofs.Outputs.{put_printed}
 use Rattle.report.proofs.Printed.refused.Goals as goal
 
-pub put_field-requires : goal.put_field-requires
-put_field-requires c = omega (arith, length-decimal c.from-2.result, c.empty-print.ensures.front)
-
 pub put_field-requires-2 : goal.put_field-requires-2
 put_field-requires-2 c = omega (arith, length-decimal c.from-2.result, length-decimal c.args.index, c.empty-print.ensures.front)
 

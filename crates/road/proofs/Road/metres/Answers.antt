@@ -17,9 +17,6 @@ self t u v e = either (dec_lt v most_places)
     either (yes l) = sym (entry_in (metres_of t) u v (omega arith) l ∙ metres_self t u v e)
     either (no n) = sym (entry_past (metres_of t) u v (omega arith))
 
-pub returns-then-from-to : goal.returns-then-from-to
-returns-then-from-to c = c.metres.ensures
-
 pub returns-then-to-from : goal.returns-then-to-from
 returns-then-to-from c = c.metres-then-to-from.ensures ∙ entry_both _ _ _ (metres_both _ _ _)
 

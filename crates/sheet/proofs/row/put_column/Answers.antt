@@ -1,11 +1,7 @@
 -- `sheet::row::put_column` meets its contract: a number aligned in a part of the buffer, and the byte behind it.
 -- Assumes nothing.
-use native.Mathlib.Omega.{arith}
-use Rattle.sheet.proofs.row.Laws.{length-aligned, part_long, column_put}
+use Rattle.sheet.proofs.row.Laws.{length-aligned, column_put}
 use Rattle.sheet.proofs.row.put_column.Goals as goal
-
-pub put_aligned-requires : goal.put_aligned-requires
-put_aligned-requires c = rw (part_long c.args.at c.args.width c.args.out.now (omega (arith, c.requires.room))) (c.requires.wide, c.requires.fits)
 
 pub returns : goal.returns
 returns c = let wide = length-aligned c.args.width c.args.n c.requires.wide c.ranges.n.fits c.requires.fits in

@@ -1,26 +1,15 @@
 -- `dispatch::choice::Ends::of` meets its contract: the loop has entered the stops below p, each at its follower where that is an end.
 -- No end is entered twice, since it follows one stop, and every end is, since it follows a stop. Assumes nothing.
 use lib.ListN.{length-replicate}
-use native.Mathlib.Nat.{le_of_lt}
-use native.Mathlib.Omega.{arith}
 use Rattle.workfunction.proofs.Plan.{Plan, plan_facts}
 use Rattle.book.specs.Book.{follower}
-use Rattle.dispatch.proofs.choice.Ends.of.Invariants.{free_begun, free_kept, free_taken, free_ended}
+use Rattle.dispatch.proofs.choice.Ends.of.Invariants.{free_kept, free_taken, free_ended}
 use Rattle.dispatch.proofs.choice.Ends.of.Goals as goal
 use Rattle.dispatch.proofs.choice.Ends.of.Goals.{Start, else-b-cranes, then-b-cranes}
 
 -- the plan, by its facts
 planned : (c : Start) → Plan c.args.cranes c.args.new (follower c.args.plan.now)
 planned c = plan_facts _ _ _ c.requires.planned
-
-pub loop-p-init : goal.loop-p-init
-loop-p-init c = free_begun _ _ _ _ _ _
-
-pub overflow_cast-b : goal.overflow_cast-b
-overflow_cast-b c = omega (arith, c.shared_slice_known-in-loop-p-1.given c.loop-p.p)
-
-pub overflow_sub-nets : goal.overflow_sub-nets
-overflow_sub-nets c = omega (arith, c.cost.ensures, c.requires.totalled.legs c.loop-p.p (le_of_lt c.loop-p-test.true))
 
 pub loop-p-preserved : goal.loop-p-preserved
 loop-p-preserved c = elim c.if-b-cranes.branch [
