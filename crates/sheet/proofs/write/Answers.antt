@@ -50,3 +50,8 @@ returns c = let arrays : DayArrays c.args.day = record { starts = search rules; 
     let tested = sym (told_number _ _ _ c.in_ok-served.ensures) in
     output-written _ _ _ tested (rows_long _ _ _ c.in_ok-served.ensures arrays tested) _ c.if-out-length.false
     (rw (rows_are _ _ _ c.in_ok-served.ensures arrays tested) at c.put.ensures)
+
+pub shared_ref_as_front-put : goal.shared_ref_as_front-put
+shared_ref_as_front-put c = let arrays : DayArrays c.args.day = record { starts = search rules; requests = search rules } in
+    let tested = sym (told_number _ _ _ c.in_ok-served.ensures) in
+    few_calls _ _ _ c.in_ok-served.ensures arrays tested

@@ -7,7 +7,7 @@ use Rattle.base.proofs.Numbers.{told_up}
 use Rattle.road.specs.Table.{Table, metres_of, entry}
 use Rattle.dayfile.specs.declared.Day.{Day}
 use Rattle.dayfile.specs.Day.{day_starts, day_requests, DayArrays, placed_refusal}
-use Rattle.dayfile.proofs.Limits.{Placed, day_placed, enough_starts, enough_requests, length-starts, length_requests}
+use Rattle.dayfile.proofs.Limits.{Placed, day_placed}
 use Rattle.workfunction.specs.Plan.{plan_floor}
 use Rattle.workfunction.proofs.Least.{plan_floor-same}
 use Rattle.dispatch.specs.PlanFloor.{FloorTold, floor_told, plan_floor_of}
