@@ -2,8 +2,9 @@
 // after it; and a full book of its places.
 use crate::days::{A, LEGS};
 use crate::{days, entries, line};
+use base::Refusal;
 use book::Book;
-use dispatch::Dispatch;
+use dispatch::{Commit, Costs, Dispatch};
 use std::{fmt, io};
 
 // No place and no follower.
@@ -92,40 +93,33 @@ fn quote(rt: &impl Print, book: Book) -> io::Result<()> {
     }
 }
 
-// What is printed of a commit: the number, the least, and both costs of the book after it.
+// A commit, and the costs of the book after it, the same book where it is refused. They print as the commit's number and least, and both costs,
+// 0 where they are refused.
 #[derive(Clone, Copy)]
 pub struct Sent {
-    pub number: u8,
-    pub least: u64,
-    pub book: Book,
-    pub kept: u64,
-    pub floor: u64,
+    pub commit: Result<Commit, Refusal>,
+    pub costs: Result<Costs, Refusal>,
 }
 
 impl Sent {
     // The commit of a crane to a call at a place.
     fn new(book: Book, place: u16, crane: usize) -> Sent {
         let commit = Dispatch::commit(book, 3, &LEGS, place, crane);
-        let (least, after) = commit.map_or((0, book), |commit| (commit.least, commit.book));
-        let costs = Dispatch::costs(after, 3, &LEGS);
-        let (kept, floor) = costs.map_or((0, 0), |costs| (costs.least, costs.floor));
+        let after = commit.map_or(book, |commit| commit.book);
         Sent {
-            number: base::number(commit),
-            least,
-            book: after,
-            kept,
-            floor,
+            commit,
+            costs: Dispatch::costs(after, 3, &LEGS),
         }
     }
 }
 
 impl fmt::Display for Sent {
     fn fmt<W: fmt::Write>(&self, f: &mut fmt::Formatter<W>) -> fmt::Result {
-        write!(
-            f,
-            " {} {} {} {}",
-            self.number, self.least, self.kept, self.floor
-        )
+        let least = self.commit.map_or(0, |commit| commit.least);
+        let (kept, floor) = self
+            .costs
+            .map_or((0, 0), |costs| (costs.least, costs.floor));
+        write!(f, " {} {least} {kept} {floor}", base::number(self.commit))
     }
 }
 
@@ -138,11 +132,11 @@ pub(crate) fn spoiled(book: Book) -> Book {
 // its counts, 1 or 0.
 fn commit_padded(rt: &impl Print, book: Book, crane: usize) -> io::Result<()> {
     let plain = after_commit(book, 3, &LEGS, 1, crane);
-    let padded = Sent::new(spoiled(book), 1, crane);
-    let after = padded.book;
+    let padded = spoiled(book);
+    let after = after_commit(padded, 3, &LEGS, 1, crane);
     let alike = u8::from(entries::same(plain, after));
     let zeros = u8::from(entries::same(entries::padded(after, 0, 0, 0), after));
-    print!(rt; "{padded} {alike} {zeros},")
+    print!(rt; "{} {alike} {zeros},", Sent::new(padded, 1, crane))
 }
 
 // The book before the last call, over the legs of case A.

@@ -1,5 +1,6 @@
 // Dates by a count of days. A year is counted from 1 March, so that a leap day is the last of its year: four centuries have 146,097 days, and the
 // first days of the months lie 153 in five months apart.
+use base::Refusal;
 use season::{Date, MonthDay, Window};
 use std::io;
 
@@ -36,21 +37,21 @@ pub(crate) fn date(serial: u64) -> Date {
     }
 }
 
-// The number of a date, over one place.
-fn tested(date: Date) -> u8 {
-    base::number(season::test(1, &[], &[], NEW_YEAR, date))
+// The test of a date, over one place.
+fn tested(date: Date) -> Result<(), Refusal> {
+    season::test(1, &[], &[], NEW_YEAR, date)
 }
 
-// The number that a date should have.
-fn expected(date: Date) -> u8 {
+// What the test of a real date should tell.
+fn expected(date: Date) -> Result<(), Refusal> {
     if (1_583..=9_999).contains(&date.year) {
-        0
+        Ok(())
     } else {
-        14
+        Err(Refusal::Date)
     }
 }
 
-// How many days are told by the right number.
+// How many days are told rightly.
 fn right() -> usize {
     (FIRST..END)
         .map(date)
@@ -74,7 +75,7 @@ fn accepted_of(year: u16) -> usize {
             month: (i / 64 % 16) as u8,
             day: (i % 64) as u8,
         })
-        .filter(|&date| tested(date) == 0)
+        .filter(|&date| tested(date).is_ok())
         .count()
 }
 
@@ -89,7 +90,7 @@ fn accepted() -> usize {
 fn days() -> usize {
     (FIRST..END)
         .map(date)
-        .filter(|&at| expected(at) == 0)
+        .filter(|&at| expected(at).is_ok())
         .count()
 }
 

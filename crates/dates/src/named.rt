@@ -1,4 +1,5 @@
 // Paper 10's cases by name: dates, edges, windows, and the order of the tests.
+use base::Refusal;
 use season::{Date, MonthDay, Window};
 use std::{fmt, io};
 
@@ -65,11 +66,11 @@ pub(crate) fn dates(rt: &impl Print) -> io::Result<()> {
     )
 }
 
-// The numbers with a day as the first of a window, and with it as the last, in a common year.
+// The tests with a day as the first of a window, and with it as the last, in a common year. They print as their numbers.
 #[derive(Clone, Copy)]
 struct Edge {
-    first: u8,
-    last: u8,
+    first: Result<(), Refusal>,
+    last: Result<(), Refusal>,
 }
 
 impl Edge {
@@ -84,16 +85,16 @@ impl Edge {
             ..SPRING
         };
         Self {
-            first: base::number(season::test(1, &[], &[], from, date(1, 1, 2_023))),
-            last: base::number(season::test(1, &[], &[], until, date(1, 1, 2_023))),
+            first: season::test(1, &[], &[], from, date(1, 1, 2_023)),
+            last: season::test(1, &[], &[], until, date(1, 1, 2_023)),
         }
     }
 }
 
 impl fmt::Display for Edge {
     fn fmt<W: fmt::Write>(&self, f: &mut fmt::Formatter<W>) -> fmt::Result {
-        let Edge { first, last } = self;
-        write!(f, "{first} {last}")
+        let Edge { first, last } = *self;
+        write!(f, "{} {}", base::number(first), base::number(last))
     }
 }
 
@@ -148,10 +149,10 @@ pub(crate) fn windows(rt: &impl Print) -> io::Result<()> {
     )
 }
 
-// The number of two tables on a day of April, and how many legs come back.
+// The test of two tables on a day of April, which prints as its number, and how many legs come back: one place has none, refused or not.
 #[derive(Clone, Copy)]
 struct Tables {
-    number: u8,
+    tested: Result<(), Refusal>,
     legs: usize,
 }
 
@@ -159,7 +160,7 @@ impl Tables {
     fn on<'a>(day: u8, places: usize, ordinary: &'a [u32], thaw: &'a [u32]) -> Self {
         let date = date(day, 4, 2_026);
         Self {
-            number: base::number(season::test(places, ordinary, thaw, SPRING, date)),
+            tested: season::test(places, ordinary, thaw, SPRING, date),
             legs: season::legs(places, ordinary, thaw, SPRING, date).len(),
         }
     }
@@ -167,8 +168,8 @@ impl Tables {
 
 impl fmt::Display for Tables {
     fn fmt<W: fmt::Write>(&self, f: &mut fmt::Formatter<W>) -> fmt::Result {
-        let Tables { number, legs } = self;
-        write!(f, "{number} {legs}")
+        let Tables { tested, legs } = *self;
+        write!(f, "{} {legs}", base::number(tested))
     }
 }
 

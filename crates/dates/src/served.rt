@@ -1,7 +1,8 @@
 // A day served on the legs that come back, beside the same day served on each of the two tables.
 use crate::named;
+use base::Refusal;
 use dayfile::Day;
-use dispatch::Dispatch;
+use dispatch::{Dispatch, ServedDay};
 use std::{fmt, io};
 
 // The day of case A.
@@ -20,37 +21,22 @@ fn day_a() -> Day {
     }
 }
 
-// What is told of the day: the number of the refusal, or 0; its drive, way home and floor, 0 where it is refused.
+// What is told of the day. It prints as the number of the refusal, or 0, and its drive, way home and floor, 0 where it is refused.
 #[derive(Clone, Copy)]
-struct Served {
-    number: u8,
-    driven: u64,
-    home: u64,
-    floor: u64,
-}
+struct Served(Result<ServedDay, Refusal>);
 
 impl fmt::Display for Served {
     fn fmt<W: fmt::Write>(&self, f: &mut fmt::Formatter<W>) -> fmt::Result {
-        let Served {
-            number,
-            driven,
-            home,
-            floor,
-        } = self;
-        write!(f, "{number} {driven} {home} {floor}")
+        let (driven, home, floor) = self
+            .0
+            .map_or((0, 0, 0), |day| (day.driven, day.home, day.floor));
+        write!(f, "{} {driven} {home} {floor}", base::number(self.0))
     }
 }
 
 // The day over a table.
 fn serve(legs: &[u32]) -> Served {
-    let served = Dispatch::serve_day(day_a(), legs);
-    let (driven, home, floor) = served.map_or((0, 0, 0), |day| (day.driven, day.home, day.floor));
-    Served {
-        number: base::number(served),
-        driven,
-        home,
-        floor,
-    }
+    Served(Dispatch::serve_day(day_a(), legs))
 }
 
 // The same on the legs of the first day of a month, the window being that of March to May.

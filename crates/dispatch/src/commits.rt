@@ -33,22 +33,18 @@ pub(crate) fn accepted(book: Book, table: &[u32], place: u16, crane: usize) -> C
 {
     let tidy = tidy::tidy(book);
     let calls = tidy.calls;
-    let starts = tidy.starts;
     let mut requests = tidy.requests;
     let mut stands = tidy.stands;
     let mut driven = tidy.driven;
-    let plan = tidy.plan;
-    let weights = tidy.weights;
-    let costs = legs::zeros();
     let mut matching = Matching {
-        plan,
-        weights,
-        costs,
+        plan: tidy.plan,
+        weights: tidy.weights,
+        costs: legs::zeros(),
     };
     legs::of_book(tidy, table, &mut matching.costs[..]);
     let instance = Instance {
         table,
-        starts: &starts[..tidy.cranes],
+        starts: &tidy.starts[..tidy.cranes],
         calls: &requests[..calls],
     };
     let step = serve::serve_call(
@@ -65,14 +61,13 @@ pub(crate) fn accepted(book: Book, table: &[u32], place: u16, crane: usize) -> C
     Commit {
         least: step.least,
         book: Book {
-            cranes: tidy.cranes,
             calls: calls + 1,
-            starts,
             stands,
             requests,
             plan,
             weights,
             driven,
+            ..tidy
         },
     }
 }

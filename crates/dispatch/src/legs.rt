@@ -118,15 +118,12 @@ pub(crate) fn of_book(book: Book, table: &[u32], costs: &mut [u32])
     requires { BookGiven book costs.old }
     ensures { LegTable most_places (entry (metres_of table.now)) (starts_of book) (requests_of book) (stands_of book) costs.new }
 {
-    let starts = book.starts;
-    let requests = book.requests;
-    let stands = book.stands;
     let instance = Instance {
         table,
-        starts: &starts[..book.cranes],
-        calls: &requests[..book.calls],
+        starts: &book.starts[..book.cranes],
+        calls: &book.requests[..book.calls],
     };
-    fill(instance, &stands[..book.cranes], costs);
+    fill(instance, &book.stands[..book.cranes], costs);
 }
 
 // The column of stop p, at the place `from`: the metres from it to each place.

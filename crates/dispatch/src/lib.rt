@@ -141,12 +141,10 @@ impl Dispatch {
         ensures { floor_told result ≡ plan_floor_of day table.now }
     {
         day.test_placed(table)?;
-        let starts = day.starts;
-        let requests = day.requests;
         let instance = Instance {
             table,
-            starts: &starts[..day.cranes],
-            calls: &requests[..day.calls],
+            starts: &day.starts[..day.cranes],
+            calls: &day.requests[..day.calls],
         };
         Ok(floor::of_day(instance))
     }

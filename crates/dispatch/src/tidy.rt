@@ -11,26 +11,12 @@ pub(crate) fn tidy(book: Book) -> Book
     ensures { result ≡ tidied book }
 {
     let stops = book.cranes + book.calls;
-    let mut starts = book.starts;
-    let mut stands = book.stands;
-    let mut requests = book.requests;
-    let mut plan = book.plan;
-    let mut weights = book.weights;
-    let mut driven = book.driven;
-    starts[book.cranes..].fill(0);
-    stands[book.cranes..].fill(0);
-    requests[book.calls..].fill(0);
-    plan[stops..].fill(0);
-    weights[stops..].fill(0);
-    driven[book.cranes..].fill(0);
-    Book {
-        cranes: book.cranes,
-        calls: book.calls,
-        starts,
-        stands,
-        requests,
-        plan,
-        weights,
-        driven,
-    }
+    let mut tidy = book;
+    tidy.starts[book.cranes..].fill(0);
+    tidy.stands[book.cranes..].fill(0);
+    tidy.requests[book.calls..].fill(0);
+    tidy.plan[stops..].fill(0);
+    tidy.weights[stops..].fill(0);
+    tidy.driven[book.cranes..].fill(0);
+    tidy
 }

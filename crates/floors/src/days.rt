@@ -1,18 +1,19 @@
 // Random days over three tables: one that keeps the triangle rule, and a lower and an upper one about it, which need not.
 use crate::draw::Table;
 use crate::told::{Floor, Floors};
-use crate::{draw, plans, told};
+use crate::{draw, plans};
+use base::Refusal;
 use dayfile::Day;
 use road::Road;
 use std::{fmt, io};
 
-// What the library tells of a day: the lower and the upper floor; the floor of the day served over the table in between; and the number of the
-// lower table.
+// What the library tells of a day: the lower and the upper floor; the floor of the day served over the table in between; and the test of
+// the lower table.
 #[derive(Clone, Copy)]
 struct Told {
     rough: Floors,
     between: Floor,
-    table: u8,
+    table: Result<(), Refusal>,
 }
 
 impl Told {
@@ -26,24 +27,30 @@ impl Told {
         Self {
             rough: Floors::between(day, lower, draw::front(&above, legs)),
             between: Floor::served(day, draw::front(&between, legs)),
-            table: told::tested(day.places, lower),
+            table: Road::test(day.places, lower),
         }
     }
 
-    // Whether the day is accepted over all three tables.
-    fn is_accepted(self) -> bool {
-        self.rough.number == 0 && self.between.number == 0
+    // Whether the lower and the upper floor are told, and differ.
+    fn is_apart(self) -> bool {
+        self.rough
+            .0
+            .is_ok_and(|floors| floors.lower != floors.upper)
+    }
+
+    // Whether all three floors are told, and that in between lies between the other two.
+    fn is_ordered(self) -> bool {
+        let (Ok(rough), Ok(floor)) = (self.rough.0, self.between.0) else {
+            return false;
+        };
+        rough.lower <= floor && floor <= rough.upper
     }
 }
 
 impl fmt::Display for Told {
     fn fmt<W: fmt::Write>(&self, f: &mut fmt::Formatter<W>) -> fmt::Result {
-        let Told {
-            rough,
-            between,
-            table,
-        } = self;
-        write!(f, "{rough} {between} {table}")
+        let Told { rough, between, .. } = self;
+        write!(f, "{rough} {between} {}", base::number(self.table))
     }
 }
 
@@ -67,13 +74,12 @@ impl Tally {
 
     // One day more.
     fn add(self, told: Told, right: bool) -> Self {
-        let is_right = told.is_accepted() && right;
-        let is_apart = told.rough.lower != told.rough.upper;
+        let is_broken = told.table == Err(Refusal::Triangle);
         Self {
             tried: self.tried.wrapping_add(1),
-            right: self.right.wrapping_add(u64::from(is_right)),
-            apart: self.apart.wrapping_add(u64::from(is_apart)),
-            broken: self.broken.wrapping_add(u64::from(told.table == 8)),
+            right: self.right.wrapping_add(u64::from(right)),
+            apart: self.apart.wrapping_add(u64::from(told.is_apart())),
+            broken: self.broken.wrapping_add(u64::from(is_broken)),
         }
     }
 }
@@ -102,9 +108,12 @@ fn add_small(tally: Tally, number: u64) -> Tally {
     let calls = usize::from(draw::below(draw::number(number, 6, 2), 6 - cranes));
     let day = draw::day(number, places, cranes, calls);
     let told = Told::new(number, day);
-    let is_right = told.rough.lower == searched(number, day, Table::Lower)
-        && told.rough.upper == searched(number, day, Table::Upper)
-        && told.between.floor == searched(number, day, Table::Between);
+    let is_between = told.between.0 == Ok(searched(number, day, Table::Between));
+    let is_right = told.rough.0.is_ok_and(|floors| {
+        is_between
+            && floors.lower == searched(number, day, Table::Lower)
+            && floors.upper == searched(number, day, Table::Upper)
+    });
     tally.add(told, is_right)
 }
 
@@ -114,8 +123,7 @@ fn add_random(tally: Tally, number: u64) -> Tally {
     let cranes = (draw::number(number, 6, 1) % 4) as usize + 1;
     let calls = (draw::number(number, 6, 2) % 12) as usize + 1;
     let told = Told::new(number, draw::day(number, places, cranes, calls));
-    let floor = told.between.floor;
-    tally.add(told, told.rough.lower <= floor && floor <= told.rough.upper)
+    tally.add(told, told.is_ordered())
 }
 
 // Small days, whose floors the search finds too; then random ones, the floor over the table in between beside the other two.

@@ -2,74 +2,44 @@
 use base::Refusal;
 use dayfile::Day;
 use dispatch::Dispatch;
-use road::Road;
+use rough::RoughFloors;
 use std::fmt;
 
-// A floor, 0 where it is refused, with the number of the refusal, 0 where it is told.
+// A floor, where it is not refused. It prints as the number of the refusal, 0 where there is none, and the floor, 0 where it is refused.
 #[derive(Clone, Copy)]
-pub struct Floor {
-    pub number: u8,
-    pub floor: u64,
-}
+pub struct Floor(pub Result<u64, Refusal>);
 
 impl Floor {
-    fn new(told: Result<u64, Refusal>) -> Self {
-        Self {
-            number: base::number(told),
-            floor: told.unwrap_or(0),
-        }
-    }
-
     // Of the plans of a day over one table.
     pub(crate) fn of_plans(day: Day, table: &[u32]) -> Self {
-        Self::new(Dispatch::plan_floor(day, table))
+        Self(Dispatch::plan_floor(day, table))
     }
 
     // Of a day served.
     pub(crate) fn served(day: Day, table: &[u32]) -> Self {
-        Self::new(Dispatch::serve_day(day, table).map(|served| served.floor))
+        Self(Dispatch::serve_day(day, table).map(|served| served.floor))
     }
 }
 
 impl fmt::Display for Floor {
     fn fmt<W: fmt::Write>(&self, f: &mut fmt::Formatter<W>) -> fmt::Result {
-        let Floor { number, floor } = self;
-        write!(f, "{number} {floor}")
+        write!(f, "{} {}", base::number(self.0), self.0.unwrap_or(0))
     }
 }
 
-// The floors of a day between two tables, 0 where they are refused, with the number of the refusal, 0 where they are told.
+// The floors of a day between two tables, where they are not refused. They print as the number of the refusal and the floors, like one floor.
 #[derive(Clone, Copy)]
-pub struct Floors {
-    pub number: u8,
-    pub lower: u64,
-    pub upper: u64,
-}
+pub struct Floors(pub Result<RoughFloors, Refusal>);
 
 impl Floors {
     pub(crate) fn between<'a>(day: Day, lower: &'a [u32], upper: &'a [u32]) -> Self {
-        let told = rough::floors(day, lower, upper);
-        let (lower, upper) = told.map_or((0, 0), |floors| (floors.lower, floors.upper));
-        Self {
-            number: base::number(told),
-            lower,
-            upper,
-        }
+        Self(rough::floors(day, lower, upper))
     }
 }
 
 impl fmt::Display for Floors {
     fn fmt<W: fmt::Write>(&self, f: &mut fmt::Formatter<W>) -> fmt::Result {
-        let Floors {
-            number,
-            lower,
-            upper,
-        } = self;
-        write!(f, "{number} {lower} {upper}")
+        let (lower, upper) = self.0.map_or((0, 0), |floors| (floors.lower, floors.upper));
+        write!(f, "{} {lower} {upper}", base::number(self.0))
     }
-}
-
-// The number of a table's test.
-pub(crate) fn tested(places: usize, table: &[u32]) -> u8 {
-    base::number(Road::test(places, table))
 }

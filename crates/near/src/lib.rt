@@ -43,8 +43,7 @@ pub fn near(
 {
     place::test(book, places, table, place)?;
     let cranes = book.cranes;
-    let stands = book.stands;
-    let found = metres::of_stands(table, &stands[..cranes], place);
+    let found = metres::of_stands(table, &book.stands[..cranes], place);
     let metres = &found[..cranes];
     let count = metres::within(metres, distance);
     if out.len() < count {
@@ -62,9 +61,7 @@ pub fn occupancy(book: Book, places: usize, table: &[u32]) -> Result<Occupied, R
     ensures { held_places result ≡ occupancy_of book places table.now }
 {
     book.test(places, table)?;
-    let cranes = book.cranes;
-    let stands = book.stands;
-    let mask = mask::of_places(&stands[..cranes]);
+    let mask = mask::of_places(&book.stands[..book.cranes]);
     let empty = !mask;
     Ok(Occupied {
         held: mask.count_ones() as usize,

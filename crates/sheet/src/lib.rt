@@ -26,7 +26,6 @@ pub fn write(day: Day, table: &[u32], out: &mut [u8]) -> Result<usize, Refusal>
     if out.len() < length {
         return Err(Refusal::Buffer);
     }
-    let requests = day.requests;
-    rows::put(&requests[..calls], &served, out);
+    rows::put(&day.requests[..calls], &served, out);
     Ok(length)
 }

@@ -20,11 +20,13 @@ use Rattle.book.proofs.Sound.{Fits}
 
 -- an array of m entries that is filled with z from an index on
 pub cleared : {A : Type 0} (m from : ℕ) (z : A) (old new : List A) → length old ≡ m → from ≤ m
-    → new ≡ replicate (length (take (m - from) (drop from old))) z → put_mid from (m - from) old new ≡ padded m from (λ j. get_or old j z) z
+    → new ≡ replicate (length (take (length old - from) (drop from old))) z
+    → put_mid from (length old - from) old new ≡ padded m from (λ j. get_or old j z) z
 cleared m from z old new long h e =
     let n : length (take (m - from) (drop from old)) ≡ m - from = length-take-le (m - from) (drop from old) (simp length-drop (omega arith)) in
     let none : drop (m - from) (drop from old) ≡ [] = drop_of_length-le (drop from old) (simp length-drop (omega arith)) in
-    rw (none, append-nil, e, n, take-up_to from old z (omega arith))
+    let filled : new ≡ replicate (length (take (m - from) (drop from old))) z = rw long at e in
+    rw (long, none, append-nil, filled, n, take-up_to from old z (omega arith))
 
 -- the book of such lists
 pub tidied_by : (book : Book) {starts stands requests plan : List ℕ} {weights : List ℤ} {driven : List ℕ}

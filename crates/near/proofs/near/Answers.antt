@@ -15,7 +15,7 @@ use Rattle.book.specs.Book.{BookArrays}
 use Rattle.book.proofs.Sound.{Sound}
 use Rattle.near.specs.Near.{near_refusal}
 use Rattle.near.proofs.NearCranes.{near_refused, near_sound, near_placed, drives_taken, near_short, near_told}
-use Rattle.near.proofs.Standing.{enough_stands, as_many_stands, few_stands, stands_in_table}
+use Rattle.near.proofs.Standing.{as_many_stands, few_stands, stands_in_table}
 use Rattle.near.proofs.near.Goals as goal
 
 -- what the tests tell once they accepted
@@ -29,10 +29,6 @@ module _ (book : Book) (n : ℕ) (t : Table) (place : ℕ) (h : 0 ≡ near_refus
 
 pub returns-in_err-test : goal.returns-in_err-test
 returns-in_err-test c = rw (exits _ _ c.from_residual.ensures.1) (near_refused _ _ _ _ _ _ _ c.in_err-test.ensures (refused_number _))
-
-pub slice_bounds-stands-end : goal.slice_bounds-stands-end
-slice_bounds-stands-end c = let arrays : BookArrays c.args.book = record { starts = search rules; stands = search rules; requests = search rules; driven = search rules } in
-    enough_stands arrays (sound _ _ _ _ c.in_ok-test.ensures)
 
 pub slice_bounds-of_stands-end : goal.slice_bounds-of_stands-end
 slice_bounds-of_stands-end c = let arrays : BookArrays c.args.book = record { starts = search rules; stands = search rules; requests = search rules; driven = search rules } in
@@ -64,3 +60,6 @@ returns c = let arrays : BookArrays c.args.book = record { starts = search rules
     let tested = sym c.in_ok-test.ensures in
     let found = drives_taken _ _ _ _ tested arrays c.of_stands-found.result c.of_stands-found.ensures in
     near_told _ _ _ _ tested arrays _ _ _ (rw found at c.within-count.ensures) _ _ c.if-out-count.false (rw found at c.put.ensures) (rw found at c.nth.ensures)
+
+pub shared_ref_as_front-of_stands : goal.shared_ref_as_front-of_stands
+shared_ref_as_front-of_stands c = (sound _ _ _ _ c.in_ok-test.ensures).counts.cranes

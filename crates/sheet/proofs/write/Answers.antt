@@ -24,11 +24,6 @@ returns-then-out-length c = let arrays : DayArrays c.args.day = record { starts 
     let tested = sym (told_number _ _ _ c.in_ok-served.ensures) in
     output-short _ _ _ tested (rows_long _ _ _ c.in_ok-served.ensures arrays tested) c.if-out-length.true
 
-pub slice_bounds-requests-end : goal.slice_bounds-requests-end
-slice_bounds-requests-end c = let arrays : DayArrays c.args.day = record { starts = search rules; requests = search rules } in
-    let tested = sym (told_number _ _ _ c.in_ok-served.ensures) in
-    omega (arith, few_calls _ _ _ c.in_ok-served.ensures arrays tested, arrays.requests)
-
 pub slice_bounds-put-end : goal.slice_bounds-put-end
 slice_bounds-put-end c = let arrays : DayArrays c.args.day = record { starts = search rules; requests = search rules } in
     let tested = sym (told_number _ _ _ c.in_ok-served.ensures) in
@@ -55,3 +50,8 @@ returns c = let arrays : DayArrays c.args.day = record { starts = search rules; 
     let tested = sym (told_number _ _ _ c.in_ok-served.ensures) in
     output-written _ _ _ tested (rows_long _ _ _ c.in_ok-served.ensures arrays tested) _ c.if-out-length.false
     (rw (rows_are _ _ _ c.in_ok-served.ensures arrays tested) at c.put.ensures)
+
+pub shared_ref_as_front-put : goal.shared_ref_as_front-put
+shared_ref_as_front-put c = let arrays : DayArrays c.args.day = record { starts = search rules; requests = search rules } in
+    let tested = sym (told_number _ _ _ c.in_ok-served.ensures) in
+    few_calls _ _ _ c.in_ok-served.ensures arrays tested

@@ -7,7 +7,7 @@ use Rattle.base.proofs.Numbers.{told_up}
 use Rattle.road.specs.Table.{Table, metres_of, entry}
 use Rattle.dayfile.specs.declared.Day.{Day}
 use Rattle.dayfile.specs.Day.{day_starts, day_requests, DayArrays, placed_refusal}
-use Rattle.dayfile.proofs.Limits.{Placed, day_placed, enough_starts, enough_requests, length-starts, length_requests}
+use Rattle.dayfile.proofs.Limits.{Placed, day_placed}
 use Rattle.workfunction.specs.Plan.{plan_floor}
 use Rattle.workfunction.proofs.Least.{plan_floor-same}
 use Rattle.dispatch.specs.PlanFloor.{FloorTold, floor_told, plan_floor_of}
@@ -31,22 +31,6 @@ pub returns-in_err-test_placed : goal.returns-in_err-test_placed
 unfolding plan_floor_of
 returns-in_err-test_placed c = told_up floor_told _ _ _ _ _ c.from_residual.ensures.1 c.in_err-test_placed.ensures refl
 
-pub slice_bounds-starts-end : goal.slice_bounds-starts-end
-slice_bounds-starts-end c = let arrays : DayArrays c.args.day = record { starts = search rules; requests = search rules } in
-    enough_starts _ arrays (tested c.in_ok-test_placed.ensures).counts.cranes
-
-pub slice_bounds-instance-end : goal.slice_bounds-instance-end
-slice_bounds-instance-end c = let arrays : DayArrays c.args.day = record { starts = search rules; requests = search rules } in
-    sym (length-starts _ arrays (tested c.in_ok-test_placed.ensures).counts.cranes)
-
-pub slice_bounds-requests-end : goal.slice_bounds-requests-end
-slice_bounds-requests-end c = let arrays : DayArrays c.args.day = record { starts = search rules; requests = search rules } in
-    enough_requests _ arrays (tested c.in_ok-test_placed.ensures).counts.calls
-
-pub slice_bounds-instance-end-2 : goal.slice_bounds-instance-end-2
-slice_bounds-instance-end-2 c = let arrays : DayArrays c.args.day = record { starts = search rules; requests = search rules } in
-    sym (length_requests _ arrays (tested c.in_ok-test_placed.ensures).counts.calls)
-
 pub of_day-requires : goal.of_day-requires
 of_day-requires c = let h = tested c.in_ok-test_placed.ensures in
     let arrays : DayArrays c.args.day = record { starts = search rules; requests = search rules } in
@@ -55,3 +39,9 @@ of_day-requires c = let h = tested c.in_ok-test_placed.ensures in
 pub returns : goal.returns
 returns c = let arrays : DayArrays c.args.day = record { starts = search rules; requests = search rules } in
     told _ _ arrays (sym c.in_ok-test_placed.ensures) c.of_day.ensures
+
+pub shared_ref_as_front-instance : goal.shared_ref_as_front-instance
+shared_ref_as_front-instance c = (tested c.in_ok-test_placed.ensures).counts.cranes
+
+pub shared_ref_as_front-instance-2 : goal.shared_ref_as_front-instance-2
+shared_ref_as_front-instance-2 c = (tested c.in_ok-test_placed.ensures).counts.calls

@@ -87,10 +87,10 @@ pub tidy-tidy-requires : goal.tidy-tidy-requires
 tidy-tidy-requires c = let k = (commit_called c.requires.1).0.sound.counts in (k.cranes, k.calls)
 
 pub of_book-requires : goal.of_book-requires
-of_book-requires c = sound_given (arrays (goal.at.of_book-requires c).After-tidy-tidy) (tested_so (goal.at.of_book-requires c).After-tidy-tidy).sound c.zeros-costs.ensures
+of_book-requires c = sound_given (arrays (goal.at.of_book-requires c).After-tidy-tidy) (tested_so (goal.at.of_book-requires c).After-tidy-tidy).sound c.zeros.ensures
 
-pub slice_bounds-starts-end : goal.slice_bounds-starts-end
-slice_bounds-starts-end c = (tidy_fits (goal.at.slice_bounds-starts-end c).After-tidy-tidy).starts
+pub shared_ref_as_front-instance : goal.shared_ref_as_front-instance
+shared_ref_as_front-instance c = (tested_so (goal.at.shared_ref_as_front-instance c).After-tidy-tidy).sound.counts.cranes
 
 pub slice_bounds-instance-end : goal.slice_bounds-instance-end
 slice_bounds-instance-end c = sym (starts-long (tidy_fits (goal.at.slice_bounds-instance-end c).After-tidy-tidy))
