@@ -3,7 +3,7 @@
 use Prim.Native.Nat.{ℕ, zero, suc, ◌≤◌, zero-le}
 use mathlib.Core.List.{List}
 use mathlib.Core.Path.{◌≡◌, sym, ap, ◌∙◌}
-use lib.ListN.{length, get_or, take, replicate}
+use lib.ListN.{length, get_or, take, replicate, length-append, length-replicate}
 use lib.Seq.{length-take-le}
 use native.Mathlib.Nat.{zero-add}
 use native.Mathlib.Omega.{arith}
@@ -18,7 +18,7 @@ use Rattle.dayfile.specs.declared.Day.{Day}
 use Rattle.dayfile.specs.Day.{most_calls, DayArrays, day_refusal}
 use Rattle.dayfile.specs.File.{Answer, read_file, read_table, Output, output_by}
 use Rattle.dayfile.proofs.Limits.{day-tested}
-use Rattle.dayfile.proofs.Outputs.{output_decided}
+use Rattle.dayfile.proofs.Outputs.{output_kept, output_decided}
 use Rattle.dayfile.proofs.RoundTrip.{file_accepted, read_arrays}
 use Rattle.dispatch.specs.ServedDay.{DayFigures, served_day}
 use Rattle.sheet.specs.Sheet.{sheet_bytes, sheet_of}
@@ -77,6 +77,10 @@ module _ (day : Day) (t : Table) (arrays : DayArrays day) (out : List ℕ) (o : 
   unfolding sheet_text
   sheet_refused n q h = rw q (line_told (sheet_bytes day t) out o (day_refusal day t) decided h)
 
+  -- refused, nothing is written
+  pub sheet_kept : (o.number ≡ 0 → ⊥) → o.buffer ≡ out
+  sheet_kept h = rw e (ap (λ (q : Output). q.buffer) (output_kept (day_refusal day t) (sheet_bytes day t) out (rw e at h)))
+
   pub sheet_put : o.number ≡ 0 → Put (sheet_text day t) out 0 o.buffer o.length
   unfolding sheet_text
   sheet_put h = bytes_put (sheet_bytes day t) out o (day_refusal day t) decided h
@@ -129,8 +133,9 @@ unfolding splice printed
 put_printed e p = rw (p.buffer, p.behind, e, zero-add, drop-replicate)
 
 -- a text that fits is within its array
-pub text_within : (r : Printed) (text : List ℕ) → r ≡ printed text → length text ≤ 32768 → length r.text ≡ 32768 → IsPrefixLen r.length r.text
+pub text_within : (r : Printed) (text : List ℕ) → r ≡ printed text → length text ≤ 32768 → IsPrefixLen r.length r.text
 unfolding printed
-text_within r text e fits long =
-    let within : r.length ≤ length r.text = omega (arith, ap (λ (p : Printed). p.length) e) in
+text_within r text e fits =
+    let long : length (printed text).text ≡ 32768 = simp (length-append, length-replicate) (omega arith) in
+    let within : r.length ≤ length r.text = omega (arith, ap (λ (p : Printed). p.length) e, ap (λ (p : Printed). length p.text) e) in
     (within, sym (length-take-le r.length r.text within))

@@ -20,13 +20,21 @@ pub struct Printed {
     pub text: [u8; TEXT],
 }
 
+// A print with no text.
+const EMPTY: Printed = Printed {
+    length: 0,
+    text: [0; TEXT],
+};
+
 // The print of `desk` for the bytes of a day file. Nothing is refused here: of a file that is refused, the print is the line of
 // the refusal. That the length is within the text follows, and is said so that a caller may lend the part.
 pub fn print(file: &[u8]) -> Printed
     ensures value { result ≡ printed (print_of file.now) }
     ensures prefix_len { IsPrefixLen result.length result.text }
 {
-    day::of_file(file, day::lines)
+    let mut print = EMPTY;
+    day::of_file(file, day::lines, &mut print);
+    print
 }
 
 // The print of `wallsheet`: the sheet of a day file, or the line of its refusal.
@@ -34,5 +42,7 @@ pub fn print_sheet(file: &[u8]) -> Printed
     ensures value { result ≡ printed (sheet_print_of file.now) }
     ensures prefix_len { IsPrefixLen result.length result.text }
 {
-    day::of_file(file, day::rows)
+    let mut print = EMPTY;
+    day::of_file(file, day::rows, &mut print);
+    print
 }

@@ -1,28 +1,17 @@
 // The lines of a print, each written behind the text that it has so far.
-ghost use Rattle.std.specs.Prelude.{◌≡◌, ◌+◌, ◌≤◌, replicate, length, get_or};
+ghost use Rattle.std.specs.Prelude.{◌≡◌, ◌+◌, ◌≤◌, length, get_or};
 ghost use Rattle.base.specs.Decimal.{decimal};
 ghost use Rattle.base.specs.Numbers.{refusal_number};
 ghost use Rattle.report.specs.Text.{field, call_line, last_line, refused_line, call_lines};
-ghost use Rattle.report.specs.Put.{Put, CallsGiven};
+ghost use Rattle.report.specs.Put.{Blank, Put, CallsGiven};
 ghost use Rattle.report.specs.Report.{printed};
 
-use crate::{Printed, TEXT};
+use crate::Printed;
 use base::Refusal;
 use dispatch::ServedDay;
 
 // Not by std's `write!`: none of its clauses says that it ends in `Ok` where there is room.
 impl Printed {
-    // No text.
-    pub(crate) fn empty() -> Printed
-        ensures front { result.length ≡ 0 }
-        ensures zeros { result.text ≡ replicate 32768 0 }
-    {
-        Printed {
-            length: 0,
-            text: [0; TEXT],
-        }
-    }
-
     // Bytes behind the text.
     fn put(&mut self, bytes: &[u8])
         requires { self.old.length + length bytes.now ≤ 32768 }
@@ -91,14 +80,13 @@ impl Printed {
         self.put(b"\n");
     }
 
-    // The line of a refusal.
-    pub(crate) fn refused(refusal: Refusal, index: usize) -> Printed
-        ensures { result ≡ printed (refused_line (refusal_number refusal) index) }
+    // The line of a refusal, where there is no text before it.
+    pub(crate) fn put_refused(&mut self, refusal: Refusal, index: usize)
+        requires { Blank self.old }
+        ensures { self.new ≡ printed (refused_line (refusal_number refusal) index) }
     {
-        let mut print = Printed::empty();
-        print.put_field(b"refused ", u64::from(u8::from(refusal)));
-        print.put_field(b" record ", index as u64);
-        print.put(b"\n");
-        print
+        self.put_field(b"refused ", u64::from(u8::from(refusal)));
+        self.put_field(b" record ", index as u64);
+        self.put(b"\n");
     }
 }

@@ -9,8 +9,8 @@ use Rattle.report.proofs.print.Goals as goal
 pub returns : goal.returns
 unfolding print_of
 returns c =
-    let told : c.of_file.result ≡ printed (print_of c.args.file.now) = c.of_file.ensures lines_text (λ day table r k. search rules) in
+    let told : c.of_file.new.print ≡ printed (print_of c.args.file.now) = c.of_file.ensures lines_text (λ day table lent r after k. search rules) in
     record {
       value = told;
-      prefix_len = text_within c.of_file.result (print_of c.args.file.now) told (print_fits _) (search rules);
+      prefix_len = text_within c.of_file.new.print (print_of c.args.file.now) told (print_fits _);
     }

@@ -9,8 +9,8 @@ use Rattle.report.proofs.print_sheet.Goals as goal
 pub returns : goal.returns
 unfolding sheet_print_of
 returns c =
-    let told : c.of_file.result ≡ printed (sheet_print_of c.args.file.now) = c.of_file.ensures sheet_text (λ day table r k. search rules) in
+    let told : c.of_file.new.print ≡ printed (sheet_print_of c.args.file.now) = c.of_file.ensures sheet_text (λ day table lent r after k. search rules) in
     record {
       value = told;
-      prefix_len = text_within c.of_file.result (sheet_print_of c.args.file.now) told (sheet_fits _) (search rules);
+      prefix_len = text_within c.of_file.new.print (sheet_print_of c.args.file.now) told (sheet_fits _);
     }

@@ -16,7 +16,7 @@ use Rattle.report.proofs.day.lines.Goals as goal
 pub put_calls-requires : goal.put_calls-requires
 put_calls-requires c =
     let few : c.in-Ok.served.calls ≤ most_calls = rw (ap (λ (s : DayFigures). s.calls) c.in-Ok.ensures) (served-calls _ _) in
-    record { front = c.empty-print.ensures.front; few = few }
+    record { front = c.requires.front; few = few }
 
 pub put_last-requires : goal.put_last-requires
 put_last-requires c =
@@ -25,9 +25,9 @@ put_last-requires c =
 
 pub returns-in-Ok : goal.returns-in-Ok
 returns-in-Ok c =
-    let long : length c.empty-print.result.text ≡ 32768 = search rules in
+    let long : length c.args.print.now.text ≡ 32768 = search rules in
     let few : c.in-Ok.served.calls ≤ most_calls = rw (ap (λ (s : DayFigures). s.calls) c.in-Ok.ensures) (served-calls _ _) in
-    rw (← c.in-Ok.ensures) (put_printed c.empty-print.ensures.zeros (day_put _ refl few (omega arith) c.put_calls.ensures c.put_last.ensures))
+    rw (← c.in-Ok.ensures) (put_printed c.requires.zeros (day_put _ refl few (omega arith) c.put_calls.ensures c.put_last.ensures))
 
 pub returns-in-Err : goal.returns-in-Err
-returns-in-Err c = c.refused.ensures ∙ ap printed (day_refused _ _ refl (refused_number _) ∙ ap figures_text c.in-Err.ensures)
+returns-in-Err c = c.put_refused.ensures ∙ ap printed (day_refused _ _ refl (refused_number _) ∙ ap figures_text c.in-Err.ensures)

@@ -24,7 +24,7 @@ pub slice_bounds-tell-end : goal.slice_bounds-tell-end
 slice_bounds-tell-end g c = sym (length-take-le _ _ (few _ _ c.in-Ok.reading.table c.legs-legs.ensures (search rules)))
 
 pub returns-in-Ok : goal.returns-in-Ok
-returns-in-Ok g c = λ told h. h _ _ _ c.tell.ensures ∙ ap printed (file_told told _ _ c.in-Ok.ensures c.legs-legs.ensures refl)
+returns-in-Ok g c = λ told h. h _ _ _ _ _ c.tell.ensures ∙ ap printed (file_told told _ _ c.in-Ok.ensures c.legs-legs.ensures refl)
 
 pub returns-in-Err : goal.returns-in-Err
-returns-in-Err g c = λ told h. c.refused.ensures ∙ ap printed (file_refused told _ _ c.in-Err.ensures _ refl (refused_number _))
+returns-in-Err g c = λ told h. c.put_refused.ensures ∙ ap printed (file_refused told _ _ c.in-Err.ensures _ refl (refused_number _))
