@@ -1,6 +1,5 @@
 // Dates by a count of days. A year is counted from 1 March, so that a leap day is the last of its year: four centuries have 146,097 days, and the
 // first days of the months lie 153 in five months apart.
-use base::Refusal;
 use season::{Date, MonthDay, Window};
 use std::io;
 
@@ -37,34 +36,60 @@ pub(crate) fn date(serial: u64) -> Date {
     }
 }
 
-// The test of a date, over one place.
-fn tested(date: Date) -> Result<(), Refusal> {
-    season::test(1, &[], &[], NEW_YEAR, date)
+// The number of a date, over one place.
+fn tested(date: Date) -> u8 {
+    base::number(season::test(1, &[], &[], NEW_YEAR, date))
 }
 
-// What the test of a real date should tell.
-fn expected(date: Date) -> Result<(), Refusal> {
+// The number that a real date should have.
+fn expected(date: Date) -> u8 {
     if (1_583..=9_999).contains(&date.year) {
-        Ok(())
+        0
     } else {
-        Err(Refusal::Date)
+        14
     }
 }
 
-// How many days are told rightly.
-fn right() -> usize {
-    (FIRST..END)
-        .map(date)
-        .filter(|&at| tested(at) == expected(at))
-        .count()
+// Whether a date is later than another; not by the order that `season` gives dates.
+fn is_later(at: Date, before: Date) -> bool {
+    (before.year, before.month, before.day) < (at.year, at.month, at.day)
 }
 
-// How many days are later than the day before.
-fn ascending() -> usize {
-    (FIRST..END)
-        .zip(BEFORE..END)
-        .filter(|&(at, before)| date(before) < date(at))
-        .count()
+// How many days there are up to a date, how many of them are told by the right number, and how many are later than the day before.
+#[derive(Clone, Copy)]
+struct Counted {
+    days: usize,
+    right: usize,
+    ascending: usize,
+    last: Date,
+}
+
+impl Counted {
+    // One day more.
+    fn add(self, at: Date) -> Self {
+        let is_right = tested(at) == expected(at);
+        Self {
+            days: self.days.wrapping_add(1),
+            right: self.right.wrapping_add(usize::from(is_right)),
+            ascending: self
+                .ascending
+                .wrapping_add(usize::from(is_later(at, self.last))),
+            last: at,
+        }
+    }
+
+    // All days.
+    fn all() -> Self {
+        let none = Self {
+            days: 0,
+            right: 0,
+            ascending: 0,
+            last: date(BEFORE),
+        };
+        (FIRST..END)
+            .map(date)
+            .fold(none, |counted, at| counted.add(at))
+    }
 }
 
 // How many dates of a year are accepted, of the months 0 to 15 and of the days 0 to 63.
@@ -75,7 +100,7 @@ fn accepted_of(year: u16) -> usize {
             month: (i / 64 % 16) as u8,
             day: (i % 64) as u8,
         })
-        .filter(|&date| tested(date).is_ok())
+        .filter(|&date| tested(date) == 0)
         .count()
 }
 
@@ -90,17 +115,16 @@ fn accepted() -> usize {
 fn days() -> usize {
     (FIRST..END)
         .map(date)
-        .filter(|&at| expected(at).is_ok())
+        .filter(|&at| expected(at) == 0)
         .count()
 }
 
 // Prints of all days how many are told rightly, and of all dates how many are accepted.
 pub(crate) fn each(rt: &impl Print) -> io::Result<()> {
+    let counted = Counted::all();
     println!(rt;
         "days from 1 March 1582 to 29 February 10000; told by the right number; later than the day before: {} {} {}",
-        END - FIRST,
-        right(),
-        ascending()
+        counted.days, counted.right, counted.ascending
     )?;
     println!(rt;
         "dates accepted, of the years 1500 to 10099, months 0 to 15, days 0 to 63; days of 1583 to 9999 by the count: {} {}",

@@ -85,7 +85,7 @@ impl Road {
     }
 
     // 3, then 4 unless the metres of every leg are within the limit.
-    #[tactic(auto, using(base::proofs::Numbers::handing))]
+    #[tactic(auto, using(base::proofs::Numbers::handing, crate::proofs::Table::run_held))]
     pub fn test_legs(places: usize, table: &[u32]) -> Result<(), Refusal>
         ensures { number_of result ≡ run_refusal places (length table.now) then legs_refusal table.now }
     {
@@ -103,6 +103,7 @@ impl Road {
     }
 
     // The whole test of a table: 3, then 4, then 8.
+    #[inline(always)]
     pub fn test(places: usize, table: &[u32]) -> Result<(), Refusal>
         ensures { number_of result ≡ table_refusal places table.now }
     {

@@ -58,8 +58,10 @@ impl From<Date> for MonthDay {
 }
 
 // The test of what the legs of a date are chosen from: 14 for the date and the window's edges, then 3, 4 and 8 for the ordinary table, then
-// for the thaw table. It alone tells a refusal from a table of one place, which has no legs.
+// for the thaw table. It alone tells a refusal from a table of one place, which has no legs. Put into its callers, as what it calls, so that the
+// tests of constant tables are worked out before the program runs.
 #[tactic(auto, using(base::proofs::Numbers::handing))]
+#[inline(always)]
 pub fn test(
     places: usize,
     ordinary: &[u32],

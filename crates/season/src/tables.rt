@@ -8,6 +8,7 @@ use road::Road;
 
 // 3, 4 and 8 for the ordinary table, then for the thaw table.
 #[tactic(auto, using(base::proofs::Numbers::handing))]
+#[inline(always)]
 pub(crate) fn test(places: usize, ordinary: &[u32], thaw: &[u32]) -> Result<(), Refusal>
     ensures { number_of result ≡ tables_refusal places ordinary.now thaw.now }
 {
