@@ -19,6 +19,7 @@ mod sheets;
 mod small;
 mod tally;
 
+use output::Onward;
 use std::io;
 use tally::Group;
 
@@ -38,7 +39,7 @@ fn print(rt: &impl Print) -> io::Result<()> {
     println!(rt; "entries past the counts: {}", past::all())
 }
 
-// A write that fails ends the print, and is not told.
+// A write that fails is not told, and the print goes on.
 fn main(rt: HostRuntime) {
-    let _ = print(&rt);
+    let _ = print(&Onward { to: &rt });
 }

@@ -14,6 +14,7 @@ mod prints;
 mod sheets;
 mod tables;
 
+use output::Onward;
 use std::io;
 
 // The file of case A.
@@ -123,6 +124,6 @@ fn print(rt: &impl Print) -> io::Result<()> {
 }
 
 fn main(rt: HostRuntime) {
-    // A write that fails ends the print and is not told: only the whole print, which is compared with another, says anything.
-    let _ = print(&rt);
+    // A write that fails is not told, and the print goes on: only the whole print, which is compared with another, says anything.
+    let _ = print(&Onward { to: &rt });
 }

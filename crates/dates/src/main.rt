@@ -8,6 +8,7 @@ mod named;
 mod served;
 mod year;
 
+use output::Onward;
 use std::io;
 
 // Prints every line.
@@ -20,7 +21,7 @@ fn print(rt: &impl Print) -> io::Result<()> {
     year::windows(rt)
 }
 
-// A write that fails ends the print, and is not told.
+// A write that fails is not told, and the print goes on.
 fn main(rt: HostRuntime) {
-    let _ = print(&rt);
+    let _ = print(&Onward { to: &rt });
 }

@@ -9,6 +9,7 @@ mod named;
 mod plans;
 mod told;
 
+use output::Onward;
 use std::io;
 
 // Prints every line.
@@ -19,7 +20,7 @@ fn print(rt: &impl Print) -> io::Result<()> {
     days::full(rt)
 }
 
-// A write that fails ends the print, and is not told.
+// A write that fails is not told, and the print goes on.
 fn main(rt: HostRuntime) {
-    let _ = print(&rt);
+    let _ = print(&Onward { to: &rt });
 }
