@@ -6,24 +6,23 @@ use crate::sheets::Posted;
 use crate::small::{Counts, Source};
 use crate::tally::{Group, Others, Tally};
 use crate::{search, small};
-use base::Refusal;
 use dayfile::Day;
 use dispatch::Dispatch;
 use std::fmt;
 
-// Whether a day over a run is refused so, served and as a sheet.
-fn is_refused(day: Day, run: &[u32], refusal: Refusal) -> bool {
-    Dispatch::serve_day(day, run).is_err_and(|told| told == refusal)
-        && Posted::new(day, run).is_refused(refusal)
+// Whether a day over a run is refused by a number, served and as a sheet.
+fn is_refused(day: Day, run: &[u32], number: u8) -> bool {
+    base::number(Dispatch::serve_day(day, run)) == number
+        && Posted::new(day, run).is_refused(number)
 }
 
-// Whether a day of three places with legs that break the triangle rule is refused for it; and for the table's length, which comes before, with
-// one leg fewer and with one number more.
+// Whether a day of three places with legs that break the triangle rule is refused by 8; and by 3, which comes before, with one leg fewer and with
+// one number more.
 fn is_refused_rightly(day: Day, square: &Square) -> bool {
     let legs = square.legs();
-    is_refused(day, legs.front(3), Refusal::Triangle)
-        && is_refused(day, legs.front(2), Refusal::Order)
-        && is_refused(day, legs.front(4), Refusal::Order)
+    is_refused(day, legs.front(3), 8)
+        && is_refused(day, legs.front(2), 3)
+        && is_refused(day, legs.front(4), 3)
 }
 
 // The small day of a number too. Its legs need not keep the triangle rule: then it has three places, and must be refused.

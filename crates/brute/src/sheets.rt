@@ -119,8 +119,8 @@ impl Posted {
         })
     }
 
-    // Whether the day is refused so, and the buffer is as before.
-    pub(crate) fn is_refused(&self, refusal: Refusal) -> bool {
-        self.length == Err(refusal) && self.is_kept(0)
+    // Whether the day is refused by a number, and the buffer is as before.
+    pub(crate) fn is_refused(&self, number: u8) -> bool {
+        base::number(self.length) == number && self.is_kept(0)
     }
 }

@@ -58,15 +58,16 @@ impl Case {
     }
 }
 
-// A day without calls, everyone at place 0.
+// A day without calls, everyone at place 0, and a place past its calls.
 pub(crate) fn idle(places: usize, cranes: usize) -> Day {
-    Day {
+    Case {
         places,
         cranes,
         calls: 0,
-        starts: [0; Day::CRANES],
-        requests: [0; Day::CALLS],
+        start: 0,
+        call: 0,
     }
+    .day()
 }
 
 // Prints of what was written into a buffer of sevens the number, the length, and whether the bytes past it are as before, 1 or 0.

@@ -1,7 +1,6 @@
 // The pairs of places of legs: all legs one after another, beside their index, their pair and the two tables; then numbers that are no leg's
 // index, and pairs that are no leg.
 use crate::line;
-use base::Refusal;
 use legorder::{Columns, Pair};
 use road::Road;
 use std::io;
@@ -93,7 +92,7 @@ fn of(rt: &impl Print, first: u16, second: u16) -> io::Result<()> {
 
 // Whether a pair is refused by 5.
 fn refuses(first: u16, second: u16) -> bool {
-    matches!(pairs::index_of(first, second), Err(Refusal::Place))
+    base::number(pairs::index_of(first, second)) == 5
 }
 
 // How many of the pairs of numbers below `END` are refused.
