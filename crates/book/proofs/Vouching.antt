@@ -57,11 +57,11 @@ module _ (y kept : ℤ) (f : SFits w64 y) (g : SFits w64 kept) (h : weight_rule 
   pub weights_fit : SFits w64 (to_z w64 (of_z w64 y) -ℤ to_z w64 (of_z w64 kept))
   weights_fit = rw (to_z-of_z w64 y f, to_z-of_z w64 kept g) weights_near
 
-  weights_less : difference (of_z w64 y) (of_z w64 kept) ≡ y -ℤ kept
+  pub weights_less : difference (of_z w64 y) (of_z w64 kept) ≡ y -ℤ kept
   weights_less = rw (to_z-of_z w64 y f, to_z-of_z w64 kept g) (to_z-of_z w64 (y -ℤ kept) weights_near)
 
 -- the same of two legs
-legs_less : (leg own : ℕ) → Fits w32 leg → Fits w32 own → difference (of_z w64 (pos leg)) (of_z w64 (pos own)) ≡ pos leg -ℤ pos own
+pub legs_less : (leg own : ℕ) → Fits w32 leg → Fits w32 own → difference (of_z w64 (pos leg)) (of_z w64 (pos own)) ≡ pos leg -ℤ pos own
 legs_less leg own f g =
     rw (to_z-of_z w64 (pos leg) (record { sfits = omega (arith, f) }), to_z-of_z w64 (pos own) (record { sfits = omega (arith, g) }))
     (to_z-of_z w64 (pos leg -ℤ pos own) (difference_fits leg own (omega (arith, f)) (omega (arith, g))))
