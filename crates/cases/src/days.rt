@@ -58,7 +58,7 @@ impl Case {
     }
 }
 
-// A day without calls, everyone at place 0, and a place past its calls.
+// A day without calls, everyone at place 0; the first entry past its calls is place 1.
 pub(crate) fn idle(places: usize, cranes: usize) -> Day {
     Case {
         places,

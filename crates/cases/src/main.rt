@@ -114,7 +114,8 @@ fn memory(rt: &impl Print, file: &[u8]) -> io::Result<()> {
 
 // The legend, and every case.
 fn print(rt: &impl Print) -> io::Result<()> {
-    print!(rt; "{LEGEND}")?;
+    // In one write: of a print in pieces a piece that fails takes those behind it along.
+    rt.write_all(LEGEND.as_bytes())?;
     read(rt, &FILE_A)?;
     memory(rt, &FILE_A)?;
     legs::each(rt)?;

@@ -1,6 +1,6 @@
 // Runs paper 10's cases on the compiled library and prints what each gives; then holds the dates and the windows beside a count of days, which
-// knows no month's length and compares no month. Stands on `base`, `road`, `dayfile`, `workfunction`, `book`, `dispatch` and `season`, and on
-// std for writing.
+// knows no month's length and compares no month. Stands on `base`, `road`, `dayfile`, `workfunction`, `book`, `dispatch`, `season` and
+// `output`, and on std for writing.
 #![tactic(auto)]
 
 mod count;

@@ -1,6 +1,6 @@
 // Runs paper 11's cases on the compiled library and prints what each gives; then holds the two floors beside a search through all plans of small
-// days, and beside the floors of tables that lie between the two. Stands on `base`, `road`, `dayfile`, `workfunction`, `book`, `dispatch` and
-// `rough`, and on std for writing.
+// days, and beside the floors of tables that lie between the two. Stands on `base`, `road`, `dayfile`, `workfunction`, `book`, `dispatch`,
+// `rough` and `output`, and on std for writing.
 #![tactic(auto)]
 
 mod days;

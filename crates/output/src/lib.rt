@@ -6,7 +6,7 @@ ghost use Rattle.std.specs.Prelude.{IsOk};
 use std::fmt::Display;
 use std::io;
 
-// What prints, where no write is told as failed: of what is printed as much is written as could be.
+// What prints, where no write is told as failed: what is printed after it is written all the same, and of its own print what was before it.
 #[derive(Clone, Copy)]
 pub struct Onward<P> {
     pub to: P,
